@@ -1,0 +1,4 @@
+pub mod Feed
+pub mod Deliveries
+pub mod Accept
+pub mod Pieces

@@ -1,0 +1,5 @@
+pub mod Decision
+pub mod Talk
+pub mod Tunnel
+pub mod Lawful
+pub mod Pieces
