@@ -1,0 +1,102 @@
+-- The client as a side of a handshake: its stages are the replies that it waits for. Written apart from the plain machine.
+use Prim.Native.Nat.{ℕ, _+_}
+use mathlib.Core.Bool.{Bool, true, false, cond}
+use mathlib.Core.List.{List, []}
+use lib.ListN.{length}
+use lib.Dec.{leb}
+use Rattle.protocol.specs.declared.AuthMethod.{AuthMethod}
+use Rattle.protocol.specs.declared.AuthMethod.the-variants.{NoAuth, UserPass, NoneAcceptable}
+use Rattle.protocol.specs.declared.SocksError.{SocksError}
+use Rattle.protocol.specs.declared.SocksError.the-variants.{WouldOverflow, MethodMismatch, Settled, ShortOutput}
+use Rattle.protocol.specs.declared.Reply.{Reply}
+use Rattle.protocol.specs.declared.Reply.the-variants.{NegotiationRes, AuthenticationRes, ProxyRes, Response}
+use Rattle.protocol.specs.declared.Verdict.the-variants.{Good, Bad}
+use Rattle.protocol.specs.declared.Decision as code
+use Rattle.protocol.specs.declared.Decision.the-variants.{Undecided, Decided}
+use Rattle.protocol.specs.declared.Outcome.{Outcome}
+use Rattle.protocol.specs.declared.Outcome.the-variants.{Waiting, Open, Failed}
+use Rattle.protocol.specs.Requests.{negotiationReq, authenticationReq, proxyReq, request}
+use Rattle.protocol.specs.Opening.{noAuth, userPass, Opening, v5, v4}
+use Rattle.protocol.specs.Replies.{decide}
+use Rattle.talk.specs.Decision.{Decision, undecided, decided, good, bad}
+use Rattle.talk.specs.Talk.{done, failed, Talk, stop, send, await, Side, Session, waiting, ended}
+
+-- what a session keeps for later: whether all requests went at the opening, and the requests for credentials and connection
+pub record Kept : Type 0 where
+  pub optimistic : Bool
+  pub authentication : List ℕ
+  pub proxy : List ℕ
+
+abbrev pub ClientTalk : Type 0
+ClientTalk = Talk Reply Unit SocksError
+
+-- a request behind so many bytes: sent if all are within the send limit, else the talk fails with 11
+abbrev pub limited : ℕ → List ℕ → ClientTalk → ClientTalk
+limited before q t = cond (leb (before + length q) 262) (send q t) (stop (failed WouldOverflow))
+
+-- plainly a request is sent when it is due; optimistically it went at the opening
+abbrev pub due : Bool → ℕ → List ℕ → ClientTalk → ClientTalk
+due true before q t = t
+due false before q t = limited before q t
+
+abbrev pub atProxyRes : ClientTalk
+atProxyRes = await ProxyRes (λ m. stop (done tt))
+
+abbrev pub atAuthenticationRes : Kept → ClientTalk
+atAuthenticationRes c = await AuthenticationRes (λ m. due (c .optimistic) (3 + length (c .authentication)) (c .proxy) atProxyRes)
+
+-- after the reply to a method sent; no session sends NoneAcceptable, and no reply to it is good
+abbrev pub afterMethod : AuthMethod → Kept → ClientTalk
+afterMethod NoAuth c = due (c .optimistic) 3 (c .proxy) atProxyRes
+afterMethod UserPass c = due (c .optimistic) 3 (c .authentication) (atAuthenticationRes c)
+afterMethod NoneAcceptable c = stop (failed MethodMismatch)
+
+abbrev pub talkAt : Kept → Reply → ClientTalk
+talkAt c (NegotiationRes m) = await (NegotiationRes m) (λ r. afterMethod m c)
+talkAt c AuthenticationRes = atAuthenticationRes c
+talkAt c ProxyRes = atProxyRes
+talkAt c Response = await Response (λ m. stop (done tt))
+
+-- a decision as any side has it
+abbrev pub told : code.Decision → Decision SocksError
+told Undecided = undecided
+told (Decided n Good) = decided n good
+told (Decided n (Bad e)) = decided n (bad e)
+
+abbrev pub client : Kept → Side
+client c =
+    record {
+      Stage = Reply;
+      Result = Unit;
+      Error = SocksError;
+      reads = λ s bs. told (decide s bs);
+      talkAt = talkAt c;
+      room = 262;
+      over = Settled;
+      short = ShortOutput;
+    }
+
+-- what is kept of an opening, and its talk
+abbrev pub kept : Opening → Kept
+kept (v5 noAuth d port o) = record { optimistic = o; authentication = []; proxy = proxyReq d port }
+kept (v5 (userPass u p) d port o) = record { optimistic = o; authentication = authenticationReq u p; proxy = proxyReq d port }
+kept (v4 d port) = record { optimistic = false; authentication = []; proxy = [] }
+
+abbrev pub begun : Opening → ClientTalk
+begun (v5 noAuth d port false) = limited 0 (negotiationReq NoAuth) (talkAt (kept (v5 noAuth d port false)) (NegotiationRes NoAuth))
+begun (v5 noAuth d port true) =
+    limited 0 (negotiationReq NoAuth) (limited 3 (proxyReq d port) (talkAt (kept (v5 noAuth d port true)) (NegotiationRes NoAuth)))
+begun (v5 (userPass u p) d port false) = limited 0 (negotiationReq UserPass) (talkAt (kept (v5 (userPass u p) d port false)) (NegotiationRes UserPass))
+begun (v5 (userPass u p) d port true) =
+    limited 0 (negotiationReq UserPass)
+    (limited 3 (authenticationReq u p)
+    (limited (3 + length (authenticationReq u p)) (proxyReq d port) (talkAt (kept (v5 (userPass u p) d port true)) (NegotiationRes UserPass))))
+begun (v4 d port) = send (request d port) (talkAt (kept (v4 d port)) Response)
+
+abbrev pub side : Opening → Side
+side o = client (kept o)
+
+abbrev pub outcomeOf : Session Reply Unit SocksError → Outcome
+outcomeOf (waiting s held) = Waiting
+outcomeOf (ended (done x)) = Open
+outcomeOf (ended (failed e)) = Failed e

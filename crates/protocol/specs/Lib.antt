@@ -1,0 +1,12 @@
+pub mod Bytes
+pub mod Numbers
+pub mod Host
+pub mod AddressText
+pub mod AddressReading
+pub mod Requests
+pub mod Opening
+pub mod Utf8
+pub mod Replies
+pub mod Machine
+pub mod Grammar
+pub mod Client
