@@ -4,3 +4,10 @@ pub mod AddressDigits
 pub mod AddressIpv4
 pub mod AddressIpv6
 pub mod Destinations
+pub mod Hosts
+pub mod Openings
+pub mod Replies
+pub mod Words
+pub mod Client
+pub mod Sequences
+pub mod Examples

@@ -10,15 +10,16 @@ use Rattle.protocol.specs.declared.SocksError.{SocksError}
 use Rattle.protocol.specs.declared.SocksError.the-variants.{WouldOverflow, MethodMismatch, Settled, ShortOutput}
 use Rattle.protocol.specs.declared.Reply.{Reply}
 use Rattle.protocol.specs.declared.Reply.the-variants.{NegotiationRes, AuthenticationRes, ProxyRes, Response}
+use Rattle.protocol.specs.declared.Verdict as code
 use Rattle.protocol.specs.declared.Verdict.the-variants.{Good, Bad}
-use Rattle.protocol.specs.declared.Decision as code
+use Rattle.protocol.specs.declared.Decision as codes
 use Rattle.protocol.specs.declared.Decision.the-variants.{Undecided, Decided}
 use Rattle.protocol.specs.declared.Outcome.{Outcome}
 use Rattle.protocol.specs.declared.Outcome.the-variants.{Waiting, Open, Failed}
 use Rattle.protocol.specs.Requests.{negotiationReq, authenticationReq, proxyReq, request}
 use Rattle.protocol.specs.Opening.{noAuth, userPass, Opening, v5, v4}
 use Rattle.protocol.specs.Replies.{decide}
-use Rattle.talk.specs.Decision.{Decision, undecided, decided, good, bad}
+use Rattle.talk.specs.Decision.{Verdict, Decision, undecided, decided, good, bad}
 use Rattle.talk.specs.Talk.{done, failed, Talk, stop, send, await, Side, Session, waiting, ended}
 
 -- what a session keeps for later: whether all requests went at the opening, and the requests for credentials and connection
@@ -58,10 +59,13 @@ talkAt c ProxyRes = atProxyRes
 talkAt c Response = await Response (λ m. stop (done tt))
 
 -- a decision as any side has it
-abbrev pub told : code.Decision → Decision SocksError
+abbrev pub judged : code.Verdict → Verdict SocksError
+judged Good = good
+judged (Bad e) = bad e
+
+abbrev pub told : codes.Decision → Decision SocksError
 told Undecided = undecided
-told (Decided n Good) = decided n good
-told (Decided n (Bad e)) = decided n (bad e)
+told (Decided n v) = decided n (judged v)
 
 abbrev pub client : Kept → Side
 client c =

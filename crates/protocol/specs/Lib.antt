@@ -10,3 +10,4 @@ pub mod Replies
 pub mod Machine
 pub mod Grammar
 pub mod Client
+pub mod Examples

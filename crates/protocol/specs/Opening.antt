@@ -68,8 +68,8 @@ pub record Condition : Type 1 where
 
 abbrev pub _↣_ : Type 0 → SocksError → Condition
 _↣_ P e = record { Holds = P; error = e }
-infixr 6 _↣_
 
+infixr 6 _↣_
 abbrev pub conditions5 : ℕ → V5 → List Condition
 conditions5 room a =
     ((room < 262) ↣ ShortOutput)

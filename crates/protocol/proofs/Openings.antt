@@ -1,0 +1,205 @@
+-- An opening is accepted exactly when none of its conditions holds, and each number comes exactly when its condition is the first to hold.
+use Prim.Native.Nat.{ℕ, _<_}
+use native.Mathlib.Omega.{arith}
+use mathlib.Core.Path.{_≡_, refl, ap, sym, _∙_}
+use mathlib.Core.Logic.{_↔_, _⊎_, inl, inr}
+use mathlib.Core.Option.{Option, none, some}
+use mathlib.Core.Bool.{Bool, true, false, cond, _&&_, _||_, not, false≢true, true≢false}
+use mathlib.Core.List.{List, [], _∷_}
+use lib.ListN.{length}
+use lib.Dec.{ltb, eqb}
+use borrow.Author.Tests.{lt-ltb, ltb-true, eq-eqb, eqb-true, not-true}
+use Rattle.protocol.specs.declared.Port.{Port}
+use Rattle.protocol.specs.declared.Port.the-variants.{Missing, Given}
+use Rattle.protocol.specs.declared.Record.{Record}
+use Rattle.protocol.specs.declared.SocksConfig.{SocksConfig}
+use Rattle.protocol.specs.declared.SocksError.{SocksError}
+use Rattle.protocol.specs.declared.Answer.{Answer}
+use Rattle.protocol.specs.declared.Answer.the-variants.{Accepted, Refused}
+use Rattle.protocol.specs.Host.{strip, allAllowed, Forbidden}
+use Rattle.protocol.specs.AddressText.{Ipv6, Name}
+use Rattle.protocol.specs.AddressReading.{Destination, ipv4, ipv6, domain, destinationOf}
+use Rattle.protocol.specs.Opening.{V5, V4, firstRecord, firstFour, Condition, _↣_, conditions5, conditions4, None, First, refuse, isEmpty, isMissing, isName, isIpv6, isNone, check5, check4, asked5, asked4, opening5, opening4}
+use Rattle.protocol.proofs.Hosts.{forbidden-just}
+use Rattle.protocol.proofs.Destinations.{ipv6-just, domain-is, name-just}
+
+-- an answer to conditions in their order
+pub record Answers (x : Answer) (cs : List Condition) : Type 0 where
+  pub accepts : x ≡ Accepted ↔ None cs
+  pub refuses : (e : SocksError) → x ≡ Refused e ↔ First e cs
+
+all-passed : Answers Accepted []
+all-passed =
+    record {
+      accepts = (λ q. tt, λ q. refl);
+      refuses = λ e. (λ q. (let z : _≡_ {A = ℕ} 0 1 = cc in absurd (omega arith)), λ q. absurd q);
+    }
+
+checked : (b : Bool) (P : Type 0) (e : SocksError) (x : Answer) (cs : List Condition) → b ≡ true ↔ P → Answers x cs → Answers (refuse b e x) ((P ↣ e) ∷ cs)
+checked true P e x cs (p, q) a =
+    record {
+      accepts = (λ r. (let z : _≡_ {A = ℕ} 0 1 = cc in absurd (omega arith)), λ r. absurd (r .0 (p refl)));
+      refuses = λ f. (λ r. inl (p refl, cc), held f);
+    }
+  where
+    held : (f : SocksError) → (P × (e ≡ f)) ⊎ ((P → ⊥) × First f cs) → Refused e ≡ Refused f
+    held f (inl r) = ap Refused (r .1)
+    held f (inr r) = absurd (r .0 (p refl))
+checked false P e x cs (p, q) a =
+    record {
+      accepts = (λ r. (no, a .accepts .0 r), λ r. a .accepts .1 (r .1));
+      refuses = λ f. (λ r. inr (no, a .refuses f .0 r), held f);
+    }
+  where
+    no : P → ⊥
+    no h = false≢true (q h)
+
+    held : (f : SocksError) → (P × (e ≡ f)) ⊎ ((P → ⊥) × First f cs) → x ≡ Refused f
+    held f (inl r) = absurd (no (r .0))
+    held f (inr r) = a .refuses f .1 (r .1)
+
+-- ---- each test decides its condition
+
+both-just : {P Q : Type 0} (a b : Bool) → a ≡ true ↔ P → b ≡ true ↔ Q → (a && b) ≡ true ↔ (P × Q)
+both-just true true (p, _) (q, _) = (λ r. (p refl, q refl), λ r. refl)
+both-just true false p (_, q) = (λ r. absurd (false≢true r), λ r. q (r .1))
+both-just false b (_, p) q = (λ r. absurd (false≢true r), λ r. p (r .0))
+
+either-just : {P Q : Type 0} (a b : Bool) → a ≡ true ↔ P → b ≡ true ↔ Q → (a || b) ≡ true ↔ (P ⊎ Q)
+either-just {P} {Q} true b (p, p′) q = (λ r. inl (p refl), λ r. refl)
+either-just {P} {Q} false b (p, p′) (q, q′) = (λ r. inr (q r), back)
+  where
+    back : P ⊎ Q → b ≡ true
+    back (inl r) = absurd (false≢true (p′ r))
+    back (inr r) = q′ r
+
+itself : (a : Bool) → a ≡ true ↔ (a ≡ true)
+itself a = (λ q. q, λ q. q)
+
+less-just : (n m : ℕ) → ltb n m ≡ true ↔ (n < m)
+less-just n m = (ltb-true n m, lt-ltb n m)
+
+empty-just : (s : List ℕ) → isEmpty s ≡ true ↔ (s ≡ [])
+empty-just [] = (λ q. refl, λ q. refl)
+empty-just (b ∷ s) = (λ q. absurd (none-left (eqb-true (length (b ∷ s)) 0 q)), λ q. (let z : _≡_ {A = ℕ} 0 1 = cc in absurd (omega arith)))
+  where
+    none-left : length (b ∷ s) ≡ 0 → ⊥
+    none-left z = omega arith
+
+forbidden : (s : List ℕ) → not (allAllowed s) ≡ true ↔ Forbidden s
+forbidden s = (λ q. forbidden-just s .0 (not-true (allAllowed s) q), λ q. rw (forbidden-just s .1 q))
+
+missing-just : (p : Port) → isMissing p ≡ true ↔ (p ≡ Missing)
+missing-just Missing = (λ q. refl, λ q. refl)
+missing-just (Given n) = (λ q. absurd (false≢true q), λ q. (let z : _≡_ {A = ℕ} 0 1 = cc in absurd (omega arith)))
+
+none-just : {A : Type 0} (r : Option A) → isNone r ≡ true ↔ (r ≡ none)
+none-just none = (λ q. refl, λ q. refl)
+none-just (some a) = (λ q. absurd (false≢true q), λ q. (let z : _≡_ {A = ℕ} 0 1 = cc in absurd (omega arith)))
+
+pub is-name : (s : List ℕ) → isName (destinationOf s) ≡ true ↔ Name s
+is-name s = (there (destinationOf s) refl, λ n. rw (name-just s .1 n))
+  where
+    there : (d : Destination) → destinationOf s ≡ d → isName d ≡ true → Name s
+    there (ipv4 bs) e q = absurd (false≢true q)
+    there (ipv6 bs) e q = absurd (false≢true q)
+    there (domain n) e q = let k = domain-is s n e in name-just s .0 (e ∙ ap domain k)
+
+is-ipv6 : (s : List ℕ) → isIpv6 (destinationOf s) ≡ true ↔ ((bs : List ℕ) × Ipv6 s bs)
+is-ipv6 s = (there (destinationOf s) refl, λ (bs, x). rw (ipv6-just s bs .1 x))
+  where
+    there : (d : Destination) → destinationOf s ≡ d → isIpv6 d ≡ true → (bs : List ℕ) × Ipv6 s bs
+    there (ipv4 bs) e q = absurd (false≢true q)
+    there (ipv6 bs) e q = (bs, ipv6-just s bs .0 e)
+    there (domain n) e q = absurd (false≢true q)
+
+three-just : {P Q R : Type 0} (a b c : Bool) → a ≡ true ↔ P → b ≡ true ↔ Q → c ≡ true ↔ R → (a && (b && c)) ≡ true ↔ (P × Q × R)
+three-just a b c p q r =
+    let s = both-just a (b && c) p (both-just b c q r) in
+    (λ h. let x = s .0 h in (x .0, x .1 .0, x .1 .1), λ (x, y, z). s .1 (x, (y, z)))
+
+-- ---- the openings
+
+pub check5-just : (room : ℕ) (a : V5) → Answers (check5 room a) (conditions5 room a)
+unfolding check5
+check5-just room a =
+    let s = strip (a .host) in
+    checked _ _ _ _ _ (less-just room 262)
+    (checked _ _ _ _ _ (either-just (isEmpty (a .host)) (isEmpty s) (empty-just (a .host)) (empty-just s))
+    (checked _ _ _ _ _ (forbidden s)
+    (checked _ _ _ _ _ (missing-just (a .port))
+    (checked _ _ _ _ _
+    (both-just (a .config .«proxy_auth») _ (itself (a .config .«proxy_auth»))
+    (either-just (ltb 255 (length (a .user))) (ltb 255 (length (a .password))) (less-just 255 (length (a .user))) (less-just 255 (length (a .password)))))
+    (checked _ _ _ _ _ (both-just (isName (destinationOf s)) (ltb 255 (length s)) (is-name s) (less-just 255 (length s)))
+    (checked _ _ _ _ _
+    (three-just (a .config .«local_dns») (isName (destinationOf s)) (isNone (firstRecord (a .records))) (itself (a .config .«local_dns»)) (is-name s) (none-just (firstRecord (a .records))))
+    all-passed))))))
+
+pub check4-just : (room : ℕ) (a : V4) → Answers (check4 room a) (conditions4 room a)
+unfolding check4
+check4-just room a =
+    let s = strip (a .host) in
+    checked _ _ _ _ _ (less-just room 1024)
+    (checked _ _ _ _ _ (either-just (isEmpty (a .host)) (isEmpty s) (empty-just (a .host)) (empty-just s))
+    (checked _ _ _ _ _ (forbidden s)
+    (checked _ _ _ _ _ (missing-just (a .port))
+    (checked _ _ _ _ _ (is-ipv6 s)
+    (checked _ _ _ _ _ (both-just (isName (destinationOf s)) (ltb 1014 (length s)) (is-name s) (less-just 1014 (length s)))
+    (checked _ _ _ _ _
+    (three-just (a .localDns) (isName (destinationOf s)) (isNone (firstFour (a .records))) (itself (a .localDns)) (is-name s) (none-just (firstFour (a .records))))
+    all-passed))))))
+
+-- ---- the lookup list changes nothing unless local lookup is on and the host is a name
+
+abbrev pub withRecords5 : V5 → List Record → V5
+withRecords5 a rs = record { config = a .config; host = a .host; port = a .port; user = a .user; password = a .password; records = rs }
+
+abbrev pub withRecords4 : V4 → List Record → V4
+withRecords4 a rs = record { localDns = a .localDns; host = a .host; port = a .port; records = rs }
+
+-- local lookup is off, or the host is no name
+abbrev Unread : Bool → Destination → Type 0
+Unread lookup d = (lookup ≡ false) ⊎ (isName d ≡ false)
+
+unread : (lookup : Bool) (s : List ℕ) → (((lookup ≡ true) × Name s) → ⊥) → Unread lookup (destinationOf s)
+unread false s not-so = inl refl
+unread true s not-so = go (isName (destinationOf s)) refl
+  where
+    go : (x : Bool) → isName (destinationOf s) ≡ x → (true ≡ false) ⊎ (x ≡ false)
+    go true e = absurd (not-so (refl, is-name s .0 e))
+    go false e = inr refl
+
+test-same : (lookup : Bool) (d : Destination) (x y : Bool) → Unread lookup d → (lookup && (isName d && x)) ≡ (lookup && (isName d && y))
+test-same lookup d x y (inl e) = rw e
+test-same lookup d x y (inr e) = rw e
+
+asked5-same : (lookup : Bool) (d : Destination) (rs rs′ : List Record) → Unread lookup d → asked5 lookup rs d ≡ asked5 lookup rs′ d
+asked5-same lookup (ipv4 bs) rs rs′ u = refl
+asked5-same lookup (ipv6 bs) rs rs′ u = refl
+asked5-same lookup (domain s) rs rs′ (inl e) = rw e
+asked5-same lookup (domain s) rs rs′ (inr e) = absurd (true≢false e)
+
+asked4-same : (lookup : Bool) (d : Destination) (rs rs′ : List Record) → Unread lookup d → asked4 lookup rs d ≡ asked4 lookup rs′ d
+asked4-same lookup (ipv4 bs) rs rs′ u = refl
+asked4-same lookup (ipv6 bs) rs rs′ u = refl
+asked4-same lookup (domain s) rs rs′ (inl e) = rw e
+asked4-same lookup (domain s) rs rs′ (inr e) = absurd (true≢false e)
+
+pub lookup5 : (room : ℕ) (a : V5) (rs : List Record) → (((a .config .«local_dns» ≡ true) × Name (strip (a .host))) → ⊥)
+    → (check5 room (withRecords5 a rs) ≡ check5 room a) × (opening5 (withRecords5 a rs) ≡ opening5 a)
+unfolding check5 opening5
+lookup5 room a rs not-so =
+    let u = unread (a .config .«local_dns») (strip (a .host)) not-so in (
+      rw (test-same (a .config .«local_dns») (destinationOf (strip (a .host))) (isNone (firstRecord rs)) (isNone (firstRecord (a .records))) u),
+      rw (asked5-same (a .config .«local_dns») (destinationOf (strip (a .host))) rs (a .records) u),
+    )
+
+pub lookup4 : (room : ℕ) (a : V4) (rs : List Record) → (((a .localDns ≡ true) × Name (strip (a .host))) → ⊥)
+    → (check4 room (withRecords4 a rs) ≡ check4 room a) × (opening4 (withRecords4 a rs) ≡ opening4 a)
+unfolding check4 opening4
+lookup4 room a rs not-so =
+    let u = unread (a .localDns) (strip (a .host)) not-so in (
+      rw (test-same (a .localDns) (destinationOf (strip (a .host))) (isNone (firstFour rs)) (isNone (firstFour (a .records))) u),
+      rw (asked4-same (a .localDns) (destinationOf (strip (a .host))) rs (a .records) u),
+    )
