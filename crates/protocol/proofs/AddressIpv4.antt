@@ -8,7 +8,6 @@ use native.Mathlib.Omega.{arith}
 use lib.Dec.{eqb}
 use lib.ListN.{length, drop}
 use borrow.Author.Tests.{eq-eqb, ne-eqb, eqb-true, eqb-false}
-use Rattle.protocol.specs.declared.Digits.{Digits}
 use Rattle.protocol.specs.AddressText as G
 use Rattle.protocol.specs.AddressText.{Number, Dotted, Ipv4}
 use Rattle.protocol.specs.AddressReading.{hexValue, numberOf, markAt, ahead, dotted, ipv4Of}

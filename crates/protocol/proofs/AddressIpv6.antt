@@ -10,12 +10,11 @@ use lib.Dec.{ltb, leb, eqb}
 use lib.ListN.{length, drop, replicate, length-append}
 use lib.Seq.{drop-cons, drop-append-add, getD-append-add, getD-append-seam}
 use borrow.Author.Tests.{lt-ltb, le-leb, eq-eqb, ne-eqb, leb-true, eqb-true, eqb-false}
-use Rattle.protocol.specs.declared.Digits.{Digits}
 use Rattle.protocol.specs.declared.Follows.{Follows}
 use Rattle.protocol.specs.declared.Follows.the-variants.{Bad, End, Dot, Colons, Colon}
 use Rattle.protocol.specs.Bytes.{byte, two}
 use Rattle.protocol.specs.AddressText as G
-use Rattle.protocol.specs.AddressText.{Hex, Number, Dotted, Ipv4, Group, Groups, Tail, Left, Right, Ipv6, digit}
+use Rattle.protocol.specs.AddressText.{Hex, Number, Dotted, Group, Groups, Tail, Left, Right, Ipv6, digit}
 use Rattle.protocol.specs.AddressReading.{hexValue, groupOf, markAt, ipv4Of, followsAt, Row, no-row, ends, gap, ahead-row, quad-row, row-by, row, rightOf, joinOf, wholeOf, startsGap, ipv6Of}
 use Rattle.protocol.proofs.AddressDigits.{hex-value, hex-small, end, mark, group-taken, group-reads, group-long, Mark, mark-is, marks, behind, marked, ended}
 use Rattle.protocol.proofs.AddressIpv4.{ipv4-sound, ipv4-complete}

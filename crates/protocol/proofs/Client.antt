@@ -1,11 +1,11 @@
 -- The client's side is lawful, and fed with bytes it does what the plain machine does.
-use Prim.Native.Nat.{ℕ, _+_, _≤_, zero-le}
+use Prim.Native.Nat.{ℕ, _+_}
 use native.Mathlib.Nat.{add-zero, zero-add}
 use native.Mathlib.Omega.{arith}
-use mathlib.Core.Path.{_≡_, refl, ap, sym, _∙_}
+use mathlib.Core.Path.{_≡_, refl, sym, _∙_}
 use mathlib.Core.Bool.{Bool, true, false, cond}
 use mathlib.Core.List.{List, [], _∷_, _++_, append-assoc, append-nil}
-use lib.ListN.{length, take, drop, length-append, length-drop}
+use lib.ListN.{length, take, drop, length-append}
 use lib.Seq.{drop-drop}
 use lib.Dec.{leb}
 use Rattle.protocol.specs.declared.AuthMethod.{AuthMethod}
@@ -17,15 +17,14 @@ use Rattle.protocol.specs.declared.Reply.the-variants.{NegotiationRes, A
 use Rattle.protocol.specs.declared.Verdict.the-variants.{Good, Bad}
 use Rattle.protocol.specs.declared.Decision.{Decision}
 use Rattle.protocol.specs.declared.Decision.the-variants.{Undecided, Decided}
-use Rattle.protocol.specs.declared.Outcome.{Outcome}
-use Rattle.protocol.specs.declared.Outcome.the-variants.{Waiting, Open, Failed}
+use Rattle.protocol.specs.declared.Outcome.the-variants.{Failed}
 use Rattle.protocol.specs.Requests.{negotiationReq}
 use Rattle.protocol.specs.Opening.{noAuth, userPass, Opening, v5, v4, replies, atOpening, later, within, lengths}
 use Rattle.protocol.specs.Replies.{decide}
 use Rattle.protocol.specs.Machine.{Machine, has, sends, reads, run, machine, usedBy, used}
 use Rattle.protocol.specs.Client.{Kept, ClientTalk, limited, due, atProxyRes, atAuthenticationRes, afterMethod, talkAt, told, client, kept, begun, side, outcomeOf}
-use Rattle.protocol.proofs.Replies.{extends, decided-within}
-use Rattle.talk.specs.Talk.{done, failed, stop, send, await, Session, waiting, ended, Fed, unmoved, deciding, feed, isOver, reached}
+use Rattle.protocol.proofs.Replies.{extends}
+use Rattle.talk.specs.Talk.{done, failed, stop, send, await, Session, waiting, ended, Fed, deciding, feed, isOver, reached}
 use Rattle.talk.specs.Lawful.{Shaped, Lawful}
 use Rattle.talk.proofs.Feed.{feed-exact}
 

@@ -1,15 +1,14 @@
 -- Brackets go just where both stand at the ends, and the test of a host's bytes is right.
-use Prim.Native.Nat.{ℕ, zero, suc, _+_, _-_, _≤_, _<_, zero-le}
-use native.Mathlib.Numerals.{add-one}
+use Prim.Native.Nat.{ℕ, zero, suc, _+_, _-_, _≤_, _<_}
 use native.Mathlib.Omega.{arith}
-use mathlib.Core.Path.{_≡_, refl, ap, sym, _∙_}
+use mathlib.Core.Path.{_≡_, refl, ap, _∙_}
 use mathlib.Core.Logic.{_↔_, _⊎_, inl, inr}
-use mathlib.Core.Bool.{Bool, true, false, cond, _&&_, false≢true, true≢false}
+use mathlib.Core.Bool.{Bool, true, false, cond, _&&_, true≢false}
 use mathlib.Core.List.{List, [], _∷_, _++_}
 use lib.ListN.{length, take, drop, getD, length-append, drop-of-length-le}
 use lib.Seq.{take-append-seam, getD-append-seam, split-at}
 use lib.Dec.{ltb, leb, eqb}
-use borrow.Author.Tests.{lt-ltb, le-ltb, ltb-false, leb-true, leb-false, lt-leb, le-leb, eqb-true, eq-eqb}
+use borrow.Author.Tests.{le-ltb, ltb-false, leb-false, lt-leb, eqb-true}
 use Rattle.protocol.specs.Bytes.{byte}
 use Rattle.protocol.specs.Host.{strip, allowed, allAllowed, Forbidden}
 

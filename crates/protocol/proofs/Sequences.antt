@@ -6,11 +6,10 @@ use mathlib.Core.Path.{_≡_, refl, ap, sym, subst, _∙_}
 use mathlib.Core.Logic.{_↔_}
 use mathlib.Core.Bool.{Bool, true, false, cond, true≢false}
 use mathlib.Core.List.{List, [], _∷_, _++_, append-nil}
-use lib.ListN.{length, take, drop, length-append}
+use lib.ListN.{length, take}
 use lib.Seq.{take-at}
 use lib.Dec.{leb}
 use borrow.Author.Tests.{leb-true, le-leb}
-use Rattle.protocol.specs.declared.AuthMethod.{AuthMethod}
 use Rattle.protocol.specs.declared.AuthMethod.the-variants.{NoAuth, UserPass, NoneAcceptable}
 use Rattle.protocol.specs.declared.SocksError.{SocksError}
 use Rattle.protocol.specs.declared.SocksError.the-variants.{WouldOverflow}
@@ -19,20 +18,18 @@ use Rattle.protocol.specs.declared.Reply.the-variants.{NegotiationRes, A
 use Rattle.protocol.specs.declared.Verdict.the-variants.{Good, Bad}
 use Rattle.protocol.specs.declared.Decision.{Decision}
 use Rattle.protocol.specs.declared.Decision.the-variants.{Undecided, Decided}
-use Rattle.protocol.specs.declared.Outcome.{Outcome}
-use Rattle.protocol.specs.declared.Outcome.the-variants.{Waiting, Open, Failed}
+use Rattle.protocol.specs.declared.Outcome.the-variants.{Waiting, Open}
 use Rattle.protocol.specs.Bytes.{Bytes}
-use Rattle.protocol.specs.AddressReading.{Destination}
 use Rattle.protocol.specs.Requests.{negotiationReq, authenticationReq, proxyReq}
-use Rattle.protocol.specs.Opening.{Credentials, noAuth, userPass, Opening, v5, v4, Fits}
+use Rattle.protocol.specs.Opening.{noAuth, userPass, Opening, v5, v4, Fits}
 use Rattle.protocol.specs.Replies.{decide}
 use Rattle.protocol.specs.Machine.{Machine, machine, used}
 use Rattle.protocol.specs.Grammar.{Bound, Sequence, plain, credentials, version4, Word, method-00, method-02, accepted, connected, granted}
-use Rattle.protocol.specs.Client.{Kept, ClientTalk, limited, due, atProxyRes, atAuthenticationRes, afterMethod, talkAt, judged, told, client, kept, begun, side, outcomeOf}
+use Rattle.protocol.specs.Client.{Kept, ClientTalk, limited, due, atProxyRes, atAuthenticationRes, afterMethod, talkAt, told, client, kept, begun, side, outcomeOf}
 use Rattle.protocol.proofs.Words.{word-good, word-just}
-use Rattle.protocol.proofs.Client.{client-lawful, asMachine, machine-feed, used-feed}
+use Rattle.protocol.proofs.Client.{client-lawful, machine-feed, used-feed}
 use Rattle.talk.specs.Decision as talk
-use Rattle.talk.specs.Talk.{done, failed, stop, send, await, Session, waiting, ended, feed, isOver, reached}
+use Rattle.talk.specs.Talk.{done, failed, stop, send, await, Session, waiting, ended, feed, heldBy, isOver}
 use Rattle.talk.specs.Lawful.{Good as GoodAt, Accepts, Begins}
 use Rattle.talk.proofs.Accept.{opens, parsed, feed-used}
 
@@ -254,7 +251,7 @@ reached-place : (o : Opening) (bs : List ℕ) → isOver (feed (side o) (begun o
     → used o bs ≡ feed (side o) (begun o) bs .place
 reached-place o bs w = used-feed o bs ∙ go (feed (side o) (begun o) bs .session) w
   where
-    go : (s : Session Reply Unit SocksError) → isOver s ≡ true → feed (side o) (begun o) bs .place + length (Rattle.talk.specs.Talk.heldBy s) ≡ feed (side o) (begun o) bs .place
+    go : (s : Session Reply Unit SocksError) → isOver s ≡ true → feed (side o) (begun o) bs .place + length (heldBy s) ≡ feed (side o) (begun o) bs .place
     go (waiting s h) w = absurd (true≢false (sym w))
     go (ended e) w = add-zero _
 

@@ -1,16 +1,16 @@
 -- The test of UTF-8 passes just on what the grammar gives.
-use Prim.Native.Nat.{ℕ, suc, _≤_, _<_}
+use Prim.Native.Nat.{ℕ, _≤_, _<_}
 use native.Mathlib.Omega.{arith}
-use mathlib.Core.Path.{_≡_, refl, ap, sym, _∙_}
+use mathlib.Core.Path.{_≡_, refl, ap, _∙_}
 use mathlib.Core.Logic.{_↔_, inl, inr, _⊎_}
 use mathlib.Core.Bool.{Bool, true, false, cond, false≢true, _||_}
-use mathlib.Core.List.{List, [], _∷_, _++_}
-use lib.Dec.{leb, ltb, eqb, lit≤}
-use borrow.Author.Tests.{le-ltb, ltb-false, eqb-true, eq-eqb}
+use mathlib.Core.List.{List, [], _∷_}
+use lib.Dec.{ltb, eqb, lit≤}
+use borrow.Author.Tests.{le-ltb, ltb-true, ltb-false, eqb-true, eq-eqb}
 use Rattle.protocol.specs.declared.Utf8State.{Utf8State}
 use Rattle.protocol.specs.declared.Utf8State.the-variants.{Boundary, Tail1, Tail2, Tail3, AfterE0, AfterEd, AfterF0, AfterF4, Invalid}
 use Rattle.protocol.specs.Utf8.{In, Tail, Char, one, two, three-E0, three-E1, three-ED, three-EE, four-F0, four-F1, four-F4, Utf8, none, more, classOf, among, first, next, scan, isBoundary, isUtf8}
-use Rattle.protocol.proofs.Tests.{either, implies, implied, allBelow, below, isFrom, from-is, is-from}
+use Rattle.protocol.proofs.Tests.{implies, implied, allBelow, below, isFrom, from-is, is-from}
 
 -- ---- a range of bytes and a range of classes, by one test over all bytes
 
@@ -44,7 +44,7 @@ is-byte : (b : ℕ) → classOf b ≤ 10 → b < 256
 is-byte b h = go (ltb b 256) refl
   where
     go : (x : Bool) → ltb b 256 ≡ x → b < 256
-    go true e = borrow.Author.Tests.ltb-true b 256 e
+    go true e = ltb-true b 256 e
     go false e = let l = ltb-false b 256 e in let c = past b (omega arith) in absurd (omega arith)
 
 byte-in : (lo hi k l : ℕ) → l ≤ 10 → allBelow 256 (λ b. implies (isFrom k l (classOf b)) (isFrom lo hi b)) ≡ true

@@ -2,8 +2,8 @@
 use Prim.Native.Nat.{ℕ, _+_, _≤_}
 use native.Mathlib.Omega.{arith}
 use mathlib.Core.Path.{_≡_, refl, ap, sym, _∙_}
-use mathlib.Core.Logic.{_↔_, _⊎_, inl, inr}
-use mathlib.Core.Bool.{Bool, true, false, cond, true≢false, false≢true, _&&_, _||_, not}
+use mathlib.Core.Logic.{_↔_}
+use mathlib.Core.Bool.{Bool, true, false, cond, _&&_, _||_, not}
 use mathlib.Core.List.{List, [], _∷_, _++_, append-assoc, append-nil}
 use lib.ListN.{length, take, drop, length-append, length-drop, take-append-drop}
 use lib.Seq.{take-at, length-take-le}
@@ -24,7 +24,7 @@ use Rattle.protocol.specs.Requests.{methodByte}
 use Rattle.protocol.specs.Utf8.{Utf8, isUtf8}
 use Rattle.protocol.specs.Replies.{upon, negotiationVerdict, authenticationVerdict, responseVerdict, headAllowed, typeAllowed, proxySize, nameField, proxyVerdict, proxyAt, decide}
 use Rattle.protocol.specs.Grammar.{Bound, four, six, named, Word, method-00, method-02, accepted, connected, granted}
-use Rattle.protocol.proofs.Tests.{both, either}
+use Rattle.protocol.proofs.Tests.{both}
 use Rattle.protocol.proofs.Utf8.{utf8-just}
 
 -- ---- from the word to the reader

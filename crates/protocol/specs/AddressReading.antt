@@ -2,7 +2,7 @@
 use Prim.Native.Nat.{ℕ, zero, suc, _+_, _-_, _*_}
 use mathlib.Core.Option.{Option, none, some}
 use mathlib.Core.List.{List, [], _∷_, _++_}
-use mathlib.Core.Bool.{Bool, true, false, cond, _&&_}
+use mathlib.Core.Bool.{Bool, false, cond}
 use lib.Dec.{ltb, leb, eqb}
 use lib.ListN.{length, drop, replicate}
 use Rattle.protocol.specs.declared.Digits.{Digits}

@@ -1,8 +1,8 @@
 -- The lines that document 01 marks with †, as cases: what goes in, and what must come of it.
-use Prim.Native.Nat.{ℕ, _-_}
+use Prim.Native.Nat.{ℕ}
 use Prim.Native.Char.{code}
 use Prim.Native.String.{String, [] as empty, _∷_ as _⋮_}
-use mathlib.Core.Bool.{Bool, true, false}
+use mathlib.Core.Bool.{true, false}
 use mathlib.Core.List.{List, [], _∷_, _++_}
 use lib.ListN.{length, replicate}
 use Rattle.protocol.specs.declared.Port.the-variants.{Given}
@@ -12,9 +12,9 @@ use Rattle.protocol.specs.declared.Outcome.{Outcome}
 use Rattle.protocol.specs.declared.Outcome.the-variants.{Waiting, Open, Failed}
 use Rattle.protocol.specs.Numbers.{number, status}
 use Rattle.protocol.specs.Host.{strip}
-use Rattle.protocol.specs.AddressReading.{Destination, ipv4, ipv6, domain, destinationOf}
-use Rattle.protocol.specs.Opening.{V5, V4, check5, check4, Opening, opening5, opening4}
-use Rattle.protocol.specs.Machine.{Machine, machine, used}
+use Rattle.protocol.specs.AddressReading.{Destination, ipv6, domain, destinationOf}
+use Rattle.protocol.specs.Opening.{V5, V4, check5, check4, opening5, opening4}
+use Rattle.protocol.specs.Machine.{machine, used}
 
 -- the bytes of an ASCII text
 abbrev pub text : String → List ℕ
@@ -122,4 +122,6 @@ cases =
     ∷ over4 (open4 (nameOf 11)) (0x04 ∷ 0x5A ∷ replicate 6 0) (fails 10 0) 8 21
     -- `00 5B` and six bytes: 15, status 91
     ∷ over4 (open4 (nameOf 11)) (0x00 ∷ 0x5B ∷ replicate 6 0) (fails 15 91) 8 21
+    -- 01's example of a tunnel: what follows the last reply is not used
+    ∷ over5 (open5 address) (0x05 ∷ 0x00 ∷ (success ++ text "SDF")) opens 12 13
     ∷ []

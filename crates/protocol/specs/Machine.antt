@@ -1,6 +1,6 @@
 -- Document 01, "The plain machine".
 use Prim.Native.Nat.{ℕ, _+_}
-use mathlib.Core.Bool.{Bool, cond}
+use mathlib.Core.Bool.{cond}
 use mathlib.Core.List.{List, [], _∷_, _++_}
 use lib.ListN.{length, take, drop}
 use Rattle.protocol.specs.declared.SocksError.the-variants.{WouldOverflow}

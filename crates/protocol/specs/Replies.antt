@@ -40,12 +40,13 @@ responseVerdict vn cd =
     (cond (leb 90 cd && leb cd 93) (cond (eqb cd 90) Good (Bad (Command cd))) (Bad Parsing))
     (Bad Parsing)
 
--- Connect reply: VER, REP, RSV, ATYP, BND.ADDR, BND.PORT (RFC 1928, section 6).
--- At 3 bytes: whether VER, REP and RSV may stand
+-- Connect reply: VER, REP, RSV, ATYP, BND.ADDR, BND.PORT (RFC 1928, section 6)
+
+-- VER, REP and RSV may stand
 unfoldable pub headAllowed : ℕ → ℕ → ℕ → Bool
 headAllowed ver rep rsv = eqb ver 0x05 && (leb rep 0x08 && eqb rsv 0x00)
 
--- at 5: whether ATYP may stand, with the byte after it
+-- ATYP may stand, with the byte after it
 unfoldable pub typeAllowed : ℕ → ℕ → Bool
 typeAllowed atyp len = eqb atyp 0x01 || (eqb atyp 0x04 || (eqb atyp 0x03 && leb 1 len))
 
@@ -57,20 +58,19 @@ proxySize atyp len = cond (eqb atyp 0x01) 10 (cond (eqb atyp 0x04) 22 (7 + len))
 unfoldable pub nameField : List ℕ → List ℕ
 nameField bs = take (byte bs 4) (drop 5 bs)
 
--- whole: a name is UTF-8, and REP says how it went
+-- a whole one: a name is UTF-8, and REP says how it went
 unfoldable pub proxyVerdict : ℕ → ℕ → List ℕ → Verdict
 proxyVerdict rep atyp s = cond (not (eqb atyp 0x03) || isUtf8 s) (cond (eqb rep 0x00) Good (Bad (Command rep))) (Bad Parsing)
 
+-- at its whole size, at 5 bytes, and at 3
+abbrev pub wholeAt : ℕ → List ℕ → Decision
+wholeAt size bs = upon size bs (Decided size (proxyVerdict (byte bs 1) (byte bs 3) (nameField bs)))
+
+abbrev pub typeAt : List ℕ → Decision
+typeAt bs = upon 5 bs (cond (typeAllowed (byte bs 3) (byte bs 4)) (wholeAt (proxySize (byte bs 3) (byte bs 4)) bs) (Decided 5 (Bad Parsing)))
+
 unfoldable pub proxyAt : List ℕ → Decision
-proxyAt bs =
-    upon 3 bs
-    (cond (headAllowed (byte bs 0) (byte bs 1) (byte bs 2))
-    (upon 5 bs
-    (cond (typeAllowed (byte bs 3) (byte bs 4))
-    (upon (proxySize (byte bs 3) (byte bs 4)) bs
-    (Decided (proxySize (byte bs 3) (byte bs 4)) (proxyVerdict (byte bs 1) (byte bs 3) (nameField bs))))
-    (Decided 5 (Bad Parsing))))
-    (Decided 3 (Bad Parsing)))
+proxyAt bs = upon 3 bs (cond (headAllowed (byte bs 0) (byte bs 1) (byte bs 2)) (typeAt bs) (Decided 3 (Bad Parsing)))
 
 -- a reply on the unread bytes
 unfoldable pub decide : Reply → List ℕ → Decision

@@ -2,12 +2,12 @@
 use Prim.Native.Nat.{ℕ, _+_, _-_, _≤_}
 use native.Mathlib.Nat.{add-zero, zero-add}
 use native.Mathlib.Omega.{arith}
-use mathlib.Core.Path.{_≡_, refl, ap, sym}
+use mathlib.Core.Path.{_≡_, refl, sym}
 use mathlib.Core.Bool.{Bool, true, false}
 use mathlib.Core.List.{List, [], _∷_, _++_}
 use lib.ListN.{length, take, drop}
 use lib.Seq.{drop-append-le, take-append-seam, drop-append-add, drop-length}
-use Rattle.talk.specs.Talk.{Side, waiting, ended, SessionOf, FedOf, unmoved, onward, heldBy, isOver, reached}
+use Rattle.talk.specs.Talk.{Side, waiting, ended, SessionOf, onward, heldBy, isOver, reached}
 use Rattle.talk.specs.Tunnel.{Delivery, lends, answerTo, after, joined, rests, total, sentBy, given, deliver, receiver}
 use Rattle.talk.specs.Lawful.{Lawful}
 use Rattle.talk.proofs.Feed.{Ready, Still, onward-append, onward-ready, onward-still, onward-within, onward-exact, onward-over}

@@ -2,13 +2,13 @@
 use Prim.Native.Nat.{ℕ, suc, _+_, _≤_, zero-le}
 use native.Mathlib.Nat.{le-refl, add-zero, zero-add, add-assoc}
 use native.Mathlib.Omega.{arith}
-use mathlib.Core.Path.{_≡_, refl, ap, sym, _∙_}
-use mathlib.Core.Bool.{Bool, true, false, true≢false}
+use mathlib.Core.Path.{_≡_, refl, ap, sym}
+use mathlib.Core.Bool.{true, false, true≢false}
 use mathlib.Core.List.{List, [], _++_, append-assoc, append-nil}
 use lib.ListN.{length, take, drop, length-append, length-drop}
 use lib.Seq.{take-append-le, drop-append-le}
 use Rattle.talk.specs.Decision.{Verdict, Decision, undecided, decided, good, bad}
-use Rattle.talk.specs.Talk.{stop, send, await, failed, Side, Session, waiting, ended, TalkOf, SessionOf, Fed, FedOf, unmoved, sending, moving, deciding, feed, onward, heldBy, isOver, reached}
+use Rattle.talk.specs.Talk.{stop, send, await, failed, Side, Session, waiting, ended, TalkOf, SessionOf, Fed, FedOf, unmoved, deciding, feed, onward, heldBy, isOver, reached}
 use Rattle.talk.specs.Lawful.{Late, Extends, waits, stays, Shaped, Lawful}
 
 pub same-fed : {S R E : Type 0} (f g : Fed S R E) → f .session ≡ g .session → f .sent ≡ g .sent → f .place ≡ g .place → f ≡ g

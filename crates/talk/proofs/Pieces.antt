@@ -1,13 +1,13 @@
 -- The law of pieces, for every lawful side.
-use Prim.Native.Nat.{ℕ, _+_}
+use Prim.Native.Nat.{ℕ}
 use native.Mathlib.Nat.{add-zero}
 use native.Mathlib.Omega.{arith}
-use mathlib.Core.Path.{_≡_, refl, ap, sym, _∙_}
+use mathlib.Core.Path.{_≡_, ap, sym, _∙_}
 use mathlib.Core.List.{List, [], _++_}
-use lib.ListN.{length, drop}
-use Rattle.talk.specs.Talk.{Side, TalkOf, done, SessionOf, ended, FedOf, feed, reached, heldBy}
+use lib.ListN.{length}
+use Rattle.talk.specs.Talk.{Side, TalkOf, FedOf, feed, reached}
 use Rattle.talk.specs.Tunnel.{Delivery, joined, receiver}
-use Rattle.talk.specs.Lawful.{Lawful, Shaped, Accepts, Begins}
+use Rattle.talk.specs.Lawful.{Lawful, Shaped}
 use Rattle.talk.specs.Pieces.{tunnelOf, Pieces}
 use Rattle.talk.proofs.Feed.{andThen, feed-append, feed-ready, feed-still, feed-within}
 use Rattle.talk.proofs.Deliveries.{told}

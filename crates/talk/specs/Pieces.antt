@@ -4,7 +4,7 @@ use mathlib.Core.Path.{_≡_}
 use mathlib.Core.Logic.{_↔_}
 use mathlib.Core.List.{List, []}
 use lib.ListN.{length, drop}
-use Rattle.talk.specs.Talk.{Side, TalkOf, done, SessionOf, ended, FedOf, feed, reached}
+use Rattle.talk.specs.Talk.{Side, TalkOf, done, SessionOf, ended, feed, reached}
 use Rattle.talk.specs.Tunnel.{Delivery, joined, Tunnel, tunnel, receiver}
 use Rattle.talk.specs.Lawful.{Accepts, Begins}
 

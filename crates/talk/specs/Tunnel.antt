@@ -4,7 +4,7 @@ use mathlib.Core.Bool.{Bool, cond}
 use mathlib.Core.List.{List, [], _∷_, _++_}
 use lib.ListN.{length, take, drop}
 use lib.Dec.{leb}
-use Rattle.talk.specs.Talk.{Side, SessionOf, Fed, FedOf, unmoved, onward, heldBy, isOver, reached}
+use Rattle.talk.specs.Talk.{Side, SessionOf, FedOf, unmoved, onward, heldBy, isOver, reached}
 
 -- what a delivery gives back: its answer, the session, the counts of bytes used and sent, and the output lent
 pub record Answer (X A : Type 0) : Type 0 where
