@@ -188,20 +188,23 @@ bounded ProxyRes bs h =
     (lit≤ tt)
 bounded Response bs h = bounded-upon 8 bs _ (lit≤ tt) (λ r. lit≤ tt)
 
--- an undecided reply has at most 261 bytes
+-- an undecided reply has at most 261 bytes; of the bytes it matters for one alone that it is one
+pub undecided-by : (e : Reply) (bs : List ℕ) → byte bs 4 ≤ 255 → decide e bs ≡ Undecided → length bs ≤ 261
+undecided-by e bs y q = rw q at (bounded e bs y)
+
 pub undecided-261 : (e : Reply) (bs : List ℕ) → Bytes bs → decide e bs ≡ Undecided → length bs ≤ 261
-undecided-261 e bs y q = rw q at (bounded e bs (y 4))
+undecided-261 e bs y q = undecided-by e bs (y 4) q
 
 -- and none is decided past 262
 pub decided-262 : (e : Reply) (bs : List ℕ) (n : ℕ) (v : Verdict) → Bytes bs → decide e bs ≡ Decided n v → n ≤ 262
 decided-262 e bs n v y q = rw q at (bounded e bs (y 4))
 
 -- so 262 bytes decide as all do
-pub first-262 : (e : Reply) (bs : List ℕ) → Bytes bs → decide e (take 262 bs) ≡ decide e bs
+pub first-262 : (e : Reply) (bs : List ℕ) → byte bs 4 ≤ 255 → decide e (take 262 bs) ≡ decide e bs
 first-262 e bs y = go (decide e (take 262 bs)) refl
   where
     go : (d : Decision) → decide e (take 262 bs) ≡ d → decide e (take 262 bs) ≡ decide e bs
     go Undecided q =
-        let h : length (take 262 bs) ≤ 261 = rw q at (bounded e (take 262 bs) (rw (getD-take 262 bs 4 0 (lit≤ tt)) (y 4))) in
+        let h : length (take 262 bs) ≤ 261 = rw q at (bounded e (take 262 bs) (rw (getD-take 262 bs 4 0 (lit≤ tt)) y)) in
         ap (decide e) (take-all 262 bs (omega (arith, h, length-take 262 bs)))
     go (Decided n v) q = q ∙ sym (rw take-append-drop at (stays-decided e (take 262 bs) (drop 262 bs) n v q))

@@ -44,11 +44,11 @@ unfoldable pub request : Destination4 → ℕ → List ℕ
 request (address bs) port = 0x04 ∷ 0x01 ∷ (two port ++ (bs ++ (0 ∷ [])))
 request (name s) port = 0x04 ∷ 0x01 ∷ (two port ++ (0 ∷ 0 ∷ 0 ∷ 0xFF ∷ 0 ∷ (s ++ (0 ∷ []))))
 
--- the destination that a session keeps
-abbrev pub kindOf : AddressKind → ℕ → List ℕ → Destination
-kindOf Ipv4 n bs = ipv4 (take 4 bs)
-kindOf Ipv6 n bs = ipv6 (take 16 bs)
-kindOf Domain n bs = domain (take n bs)
+-- the destination that a session keeps: the first bytes, as many as it says
+abbrev pub kindOf : AddressKind → List ℕ → Destination
+kindOf Ipv4 bs = ipv4 bs
+kindOf Ipv6 bs = ipv6 bs
+kindOf Domain bs = domain bs
 
 abbrev pub keptDestination : Address → Destination
-keptDestination a = kindOf (a .kind) (a .len) (a .bytes)
+keptDestination a = kindOf (a .kind) (take (a .len) (a .bytes))

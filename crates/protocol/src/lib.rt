@@ -37,7 +37,7 @@ pub enum AddressKind {
     Domain,
 }
 
-// A destination as a session keeps it: the first len bytes, for Ipv4 four and for Ipv6 sixteen.
+// A destination as a session keeps it: the first len bytes, four for Ipv4 and sixteen for Ipv6.
 pub struct Address {
     pub kind: AddressKind,
     pub len: u8,

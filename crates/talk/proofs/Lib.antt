@@ -2,3 +2,4 @@ pub mod Feed
 pub mod Deliveries
 pub mod Accept
 pub mod Pieces
+pub mod Follow
