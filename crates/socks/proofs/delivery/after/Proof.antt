@@ -1,0 +1,67 @@
+use Rattle.socks.specs.Steps.{rank}
+use Rattle.socks.specs.declared.Stage.the-variants.{Failed}
+use native.Mathlib.Omega.{arith}
+use mathlib.Core.Path.{refl, ap}
+use mathlib.Core.List.{_++_}
+use lib.ListN.{length, drop, length-drop, length-append}
+use Rattle.socks.specs.declared.Stage.{Stage}
+use Rattle.socks.specs.Session.{viewAt}
+use Rattle.socks.proofs.Deliveries.{packed-waits, packed-settled}
+use Rattle.talk.specs.Talk.{heldBy}
+use borrow.Author.Needs.{needs}
+use Rattle.socks.proofs.delivery.after.Statement.{statement}
+use Rattle.socks.proofs.delivery.after.Tie as tie
+
+enum-known-stage : tie.Need-enum-known-stage
+enum-known-stage c = search needs
+
+keep-rest-requires : tie.Need-keep-rest-requires
+keep-rest-requires c κs =
+    let start = c .before .before .before .before .before .before .before in
+    let a = start .args in
+    let p = start .pre in
+    let rest = drop (a .turn .place) (a .held .now ++ a .piece .now) in
+    let e = ap (λ (s : Stage). length (heldBy (viewAt s rest))) (c .before .stage .given .1) in
+    (p .0, p .1, omega (arith, e, p .2, length-drop (a .turn .place) (a .held .now ++ a .piece .now), length-append (a .held .now) (a .piece .now)))
+
+add-t14 : tie.Need-add-t14
+add-t14 c = search needs
+
+sub-t15 : tie.Need-sub-t15
+sub-t15 c = search needs
+
+enum-told : tie.Need-enum-told
+enum-told c = search needs
+
+enum-known-stage-2 : tie.Need-enum-known-stage-2
+enum-known-stage-2 c = search needs
+
+returns : tie.Need-returns
+returns c =
+    let a = c .before .before .before .before .before .before .before .before .before .args in
+    packed-waits (a .session) (a .held .now) (a .piece .now) (a .turn .place) (c .before .before .before .stage .given .1) (c .before .keep-rest .ensures)
+
+returns-2 : tie.Need-returns-2
+returns-2 c =
+    let a = c .before .before .before .before .before .before .args in
+    packed-settled (a .session) (a .turn .stage) (drop (a .turn .place) (a .held .now ++ a .piece .now)) (ap rank (c .enum-told .given .1))
+
+returns-3 : tie.Need-returns-3
+returns-3 c =
+    let a = c .before .before .before .before .before .before .before .args in
+    let e = c .before .stage2 .given in
+    rw (e .1) (packed-settled (a .session) (Failed (e .0 .0)) (drop (a .turn .place) (a .held .now ++ a .piece .now)) refl)
+
+pub after-spec : {M : Type 1} → statement M
+after-spec =
+    tie.close
+    (tie.spec
+    enum-known-stage
+    keep-rest-requires
+    add-t14
+    sub-t15
+    enum-told
+    enum-known-stage-2
+    returns
+    returns-2
+    returns-3)

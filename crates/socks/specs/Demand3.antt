@@ -1,0 +1,36 @@
+-- Demand 3, one claim over every list of deliveries to a tunnel: a field for each sentence.
+use Prim.Native.Nat.{ℕ}
+use mathlib.Core.Path.{_≡_}
+use mathlib.Core.Logic.{_↔_}
+use mathlib.Core.List.{List}
+use lib.ListN.{drop}
+use Rattle.protocol.specs.declared.Outcome.the-variants.{Open}
+use Rattle.protocol.specs.Opening.{Opening, Fits}
+use Rattle.protocol.specs.Machine.{machine, used}
+use Rattle.protocol.proofs.Sequences.{Replied, JustOne}
+use Rattle.socks.specs.declared.Session.{Session}
+use Rattle.socks.specs.Session.{outcome}
+use Rattle.socks.specs.Calls.{receiver}
+use Rattle.talk.specs.Tunnel.{Delivery, joined, Tunnel, tunnel}
+
+-- what two tunnels have alike: outcome with status, sent bytes, total count and rests
+pub record Alike (t u : Tunnel Session) : Type 0 where
+  pub outcomes : outcome (t .session) ≡ outcome (u .session)
+  pub sent : t .sent ≡ u .sent
+  pub count : t .count ≡ u .count
+  pub rest : t .rest ≡ u .rest
+
+-- of an opening, the session that it returned and the bytes that it sent
+pub record Demand3 (o : Opening) (s : Session) (sent : List ℕ) (ds : List Delivery) : Type 0 where
+  -- open exactly when the joined bytes begin with a reply sequence of the opening's grammar and its requests fit the limit
+  pub opens-just : outcome (tunnel receiver s sent ds .session) ≡ Open ↔ (Replied o (joined receiver ds) × Fits o)
+  -- if open, just one beginning is such a sequence, and the total count is its length
+  pub just-one : outcome (tunnel receiver s sent ds .session) ≡ Open → JustOne o (joined receiver ds) (tunnel receiver s sent ds .count)
+  -- open or not, the rests joined are exactly the joined bytes after the total count
+  pub rests-are : tunnel receiver s sent ds .rest ≡ drop (tunnel receiver s sent ds .count) (joined receiver ds)
+  -- all sent bytes, the outcome with its status and the total count equal the plain machine's
+  pub sent-as : tunnel receiver s sent ds .sent ≡ machine o (joined receiver ds) .sent
+  pub outcome-as : outcome (tunnel receiver s sent ds .session) ≡ machine o (joined receiver ds) .outcome
+  pub count-as : tunnel receiver s sent ds .count ≡ used o (joined receiver ds)
+  -- two lists with equal joined bytes are alike in all of these
+  pub alike : (ds′ : List Delivery) → joined receiver ds′ ≡ joined receiver ds → Alike (tunnel receiver s sent ds′) (tunnel receiver s sent ds)

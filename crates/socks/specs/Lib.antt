@@ -1,0 +1,8 @@
+pub mod Session
+pub mod Lookup
+pub mod Calls
+pub mod Demand3
+pub mod Steps
+pub mod Accepted
+pub mod Examples
+pub mod Numbers

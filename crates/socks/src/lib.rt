@@ -1,0 +1,155 @@
+// The client's side of a SOCKS handshake: a session that is opened, fed with pieces, and ended.
+mod checks;
+mod delivery;
+mod opening;
+pub mod v4;
+pub mod v5;
+
+ghost use mathlib.Core.Path.{_≡_};
+ghost use Prim.Native.Nat.{_≤_};
+ghost use lib.ListN.{drop};
+ghost use mathlib.Core.List.{[]};
+ghost use Rattle.socks.specs.Calls.{Delivers, delivered, refusal, deliver, endedBy, end};
+ghost use Rattle.socks.specs.declared.Stage.the-variants as Stage;
+ghost use Rattle.socks.specs.Session.{outcome};
+use protocol::Address;
+use protocol::Answer;
+use protocol::Outcome;
+use protocol::Record;
+use protocol::Reply;
+use protocol::SocksError;
+
+// Which reply a session waits for, or how it ended.
+pub enum Stage {
+    Awaiting(Reply),
+    Open,
+    Failed(SocksError),
+}
+
+// What a session keeps of its opening.
+pub struct Kept {
+    pub optimistic: bool,
+    pub address: Address,
+    pub user: [u8; 255],
+    pub user_len: u8,
+    pub password: [u8; 255],
+    pub password_len: u8,
+}
+
+// The first held bytes of the hold are the undecided rest of a reply.
+pub struct Session {
+    pub stage: Stage,
+    pub held: usize,
+    pub hold: [u8; 261],
+    pub kept: Kept,
+}
+
+pub struct Opened {
+    pub answer: Answer,
+    pub sent: usize,
+    pub session: Session,
+}
+
+pub struct Delivered {
+    pub answer: Answer,
+    pub used: usize,
+    pub sent: usize,
+    pub session: Session,
+}
+
+pub struct Ended {
+    pub answer: Answer,
+    pub session: Session,
+}
+
+// A lookup's chosen record, if there is one.
+pub struct Lookup {
+    pub found: bool,
+    pub record: Record,
+}
+
+impl Session {
+    // Takes a piece, and puts what it makes due at the output's start. Refused if the session is settled, or the output has less than 262 bytes.
+    pub fn deliver(self, piece: &[u8], out: &mut [u8]) -> Delivered
+        ensures { λ r. ⌜ Delivers (deliver self (now (piece .entry)) (now (out .entry))) (now (piece .entry)) r (now (out .exit)) ⌝ }
+    {
+        let stage = self.stage;
+        match stage {
+            Stage::Awaiting(reply) => self.deliver_awaiting(reply, piece, out),
+            Stage::Open => self.refused(SocksError::Settled),
+            Stage::Failed(error) => self.refused(SocksError::Settled),
+        }
+    }
+
+    fn refused(self, error: SocksError) -> Delivered
+        ensures { λ r. ⌜ r ≡ delivered (refusal error self []) ⌝ }
+    {
+        Delivered {
+            answer: Answer::Refused(error),
+            used: 0,
+            sent: 0,
+            session: self,
+        }
+    }
+
+    fn deliver_awaiting(self, reply: Reply, piece: &[u8], out: &mut [u8]) -> Delivered
+        requires { ⌜ self .stage ≡ Stage.Awaiting reply ⌝ }
+        ensures { λ r. ⌜ Delivers (deliver self (now (piece .entry)) (now (out .entry))) (now (piece .entry)) r (now (out .exit)) ⌝ }
+    {
+        if out.len() < 262 {
+            return self.refused(SocksError::ShortOutput);
+        }
+        delivery::deliver(self, reply, piece, out)
+    }
+
+    // The stream has ended: a session that waits has failed. Refused if it is settled.
+    pub fn end(self) -> Ended
+        ensures { λ r. ⌜ r ≡ endedBy (end self) ⌝ }
+    {
+        let stage = self.stage;
+        let hold = self.hold;
+        let kept = self.kept;
+        match stage {
+            Stage::Awaiting(reply) => Ended {
+                answer: Answer::Accepted,
+                session: Session {
+                    stage: Stage::Failed(SocksError::UnexpectedEof),
+                    held: 0,
+                    hold: hold,
+                    kept: kept,
+                },
+            },
+            Stage::Open => Ended {
+                answer: Answer::Refused(SocksError::Settled),
+                session: self,
+            },
+            Stage::Failed(error) => Ended {
+                answer: Answer::Refused(SocksError::Settled),
+                session: self,
+            },
+        }
+    }
+
+    // Whether the session waits, is open, or has failed and with what.
+    pub fn outcome(self) -> Outcome
+        ensures { λ r. ⌜ r ≡ outcome self ⌝ }
+    {
+        let stage = self.stage;
+        match stage {
+            Stage::Awaiting(reply) => Outcome::Waiting,
+            Stage::Open => Outcome::Open,
+            Stage::Failed(error) => Outcome::Failed(error),
+        }
+    }
+}
+
+// The part of a piece after so many bytes: what a delivery did not use.
+pub fn rest(piece: &[u8], count: usize) -> &[u8]
+    ensures { λ r. ⌜ now r ≡ drop count (now (piece .entry)) ⌝ }
+{
+    if piece.len() <= count {
+        let end = piece.len();
+        return &piece[end..];
+    }
+    &piece[count..]
+}

@@ -1,0 +1,279 @@
+// Delivers standard input to a plain v5 session for 192.0.2.7, port 443, and says what it sent, how it ended and what was left.
+use libc::STDIN_FILENO;
+use libc::STDOUT_FILENO;
+use protocol::Family;
+use protocol::Outcome;
+use protocol::Port;
+use protocol::Record;
+use protocol::SocksConfig;
+use protocol::SocksError;
+use socks::Delivered;
+use socks::Lookup;
+use socks::Opened;
+use socks::Session;
+use socks::v5;
+ghost use mathlib.Core.Path.{_≡_};
+ghost use Prim.Native.Nat.{_+_, _*_, _%_, _^_, _≤_, _<_};
+ghost use lib.ListN.{length, take};
+ghost use Rattle.io.specs.Digits.{glyph};
+ghost use Rattle.protocol.specs.Numbers.{number as Numbers·number, status as Numbers·status};
+ghost use Rattle.tunnel.specs.Lines.{hexOf, outcomeNumbers};
+
+const PIECE: usize = 513;
+
+// What a session may send in one call fits, and in hexadecimal fits the text.
+const OUTPUT: usize = 1024;
+
+const TEXT: usize = 2048;
+
+// The ASCII code of a digit below 16.
+fn hex_digit(d: u8) -> u8
+    requires { ⌜ d < 16 ⌝ }
+    ensures { λ r. ⌜ r ≡ glyph d ⌝ }
+{
+    if d < 10 { 48 + d } else { 87 + d }
+}
+
+// Two digits for each byte, at the start of the text. It answers how many digits there are.
+fn put_hex(s: &[u8], text: &mut [u8]) -> usize
+    requires { ⌜ 2 * length (now s) ≤ length (now text) ⌝ }
+    ensures { λ r. ⌜ r ≡ 2 * length (now (s .entry)) ⌝ }
+    ensures { λ r. ⌜ take r (now (text .exit)) ≡ hexOf (now (s .entry)) ⌝ }
+{
+    let mut i = 0;
+    let mut end = 0;
+    while i < s.len() {
+        let b = s[i];
+        text[end] = hex_digit(b / 16);
+        text[end + 1] = hex_digit(b % 16);
+        end += 2;
+        i += 1;
+    }
+    end
+}
+
+fn print_hex(s: &[u8])
+    requires { ⌜ length (now s) ≤ 1024 ⌝ }
+{
+    let mut text = [0u8; TEXT];
+    let n = put_hex(s, &mut text);
+    io::write_all(STDOUT_FILENO, &text[..n]);
+}
+
+fn print_sent(out: &[u8], n: usize)
+    requires { ⌜ (n ≤ length (now out)) × (length (now out) ≤ 1024) ⌝ }
+{
+    print_hex(&out[..n]);
+}
+
+fn number(error: SocksError) -> u8
+    ensures { λ r. ⌜ r ≡ Numbers·number error ⌝ }
+{
+    match error {
+        SocksError::ShortOutput => 1,
+        SocksError::MissingHost => 2,
+        SocksError::HostByte => 3,
+        SocksError::MissingPort => 4,
+        SocksError::CredentialTooLong => 5,
+        SocksError::HostTooLong => 6,
+        SocksError::IpV6 => 7,
+        SocksError::DnsFailure => 8,
+        SocksError::UnexpectedEof => 9,
+        SocksError::Parsing => 10,
+        SocksError::WouldOverflow => 11,
+        SocksError::Unsupported => 12,
+        SocksError::MethodMismatch => 13,
+        SocksError::Failed => 14,
+        SocksError::Command(status) => 15,
+        SocksError::Settled => 16,
+    }
+}
+
+fn status(error: SocksError) -> u8
+    ensures { λ r. ⌜ r ≡ Numbers·status error ⌝ }
+{
+    match error {
+        SocksError::ShortOutput => 0,
+        SocksError::MissingHost => 0,
+        SocksError::HostByte => 0,
+        SocksError::MissingPort => 0,
+        SocksError::CredentialTooLong => 0,
+        SocksError::HostTooLong => 0,
+        SocksError::IpV6 => 0,
+        SocksError::DnsFailure => 0,
+        SocksError::UnexpectedEof => 0,
+        SocksError::Parsing => 0,
+        SocksError::WouldOverflow => 0,
+        SocksError::Unsupported => 0,
+        SocksError::MethodMismatch => 0,
+        SocksError::Failed => 0,
+        SocksError::Command(status) => status,
+        SocksError::Settled => 0,
+    }
+}
+
+// An outcome's number, 0 if it is open, and its status.
+struct Numbers {
+    number: u8,
+    status: u8,
+}
+
+fn numbers_of(outcome: Outcome) -> Numbers
+    ensures { λ r. ⌜ (r .number ≡ outcomeNumbers outcome .0) × (r .status ≡ outcomeNumbers outcome .1) ⌝ }
+{
+    match outcome {
+        Outcome::Waiting => Numbers {
+            number: 255,
+            status: 0,
+        },
+        Outcome::Open => Numbers {
+            number: 0,
+            status: 0,
+        },
+        Outcome::Failed(error) => Numbers {
+            number: number(error),
+            status: status(error),
+        },
+    }
+}
+
+// The opening.
+fn begin(out: &mut [u8]) -> Opened
+    ensures { λ r. ⌜ r .sent ≤ length (now (out .exit)) ⌝ }
+{
+    let config = SocksConfig {
+        proxy_auth: false,
+        local_dns: false,
+        optimistic: false,
+    };
+    let chosen = Lookup {
+        found: false,
+        record: Record {
+            family: Family::Four,
+            address: [0u8; 16],
+        },
+    };
+    v5::open(
+        config,
+        b"192.0.2.7",
+        Port::Given(443),
+        b"",
+        b"",
+        chosen,
+        out,
+    )
+}
+
+// A delivery.
+fn pass(session: Session, piece: &[u8], out: &mut [u8]) -> Delivered
+    ensures { λ r. ⌜ (r .used ≤ length (now (piece .entry))) × (r .sent ≤ length (now (out .exit))) ⌝ }
+{
+    session.deliver(piece, out)
+}
+
+fn waits(session: Session) -> bool {
+    match session.outcome() {
+        Outcome::Waiting => true,
+        Outcome::Open => false,
+        Outcome::Failed(error) => false,
+    }
+}
+
+// The session, how many bytes it used, and how many were left.
+struct Course {
+    session: Session,
+    used: u64,
+    rest: u64,
+}
+
+fn start(out: &mut [u8]) -> Course
+    requires { ⌜ length (now out) ≤ 1024 ⌝ }
+{
+    let opened = begin(out);
+    io::write_all(STDOUT_FILENO, b"sent ");
+    print_sent(out, opened.sent);
+    let session = opened.session;
+    Course {
+        session,
+        used: 0,
+        rest: 0,
+    }
+}
+
+// A piece goes to the session if that waits, and is only counted otherwise. Each byte is counted once.
+fn take_piece(course: Course, piece: &[u8], out: &mut [u8]) -> Course
+    requires { ⌜ length (now out) ≤ 1024 ⌝ }
+    ensures { λ r. ⌜ (r .used + r .rest) % 2 ^ 64 ≡ (course .used + course .rest + length (now (piece .entry))) % 2 ^ 64 ⌝ }
+{
+    let before = course.session;
+    let n = piece.len();
+    if !waits(before) {
+        return Course {
+            session: before,
+            used: course.used,
+            rest: std::num::wrapping_add_u64(course.rest, n as u64),
+        };
+    }
+    let delivered = pass(before, piece, out);
+    print_sent(out, delivered.sent);
+    let used = delivered.used;
+    let session = delivered.session;
+    Course {
+        session,
+        used: std::num::wrapping_add_u64(course.used, used as u64),
+        rest: std::num::wrapping_add_u64(course.rest, (n - used) as u64),
+    }
+}
+
+// Reads a piece, and says how many bytes it has: none at the input's end.
+fn read_piece(piece: &mut [u8]) -> usize
+    ensures { λ r. ⌜ r ≤ length (now (piece .entry)) ⌝ }
+{
+    let got = libc::read(STDIN_FILENO, piece);
+    io::count(got, piece)
+}
+
+fn run(piece: &mut [u8], out: &mut [u8]) -> Course
+    requires { ⌜ length (now out) ≤ 1024 ⌝ }
+{
+    let mut course = start(out);
+    let mut turns = u64::MAX;
+    while turns > 0 {
+        let n = read_piece(piece);
+        if n == 0 {
+            break;
+        }
+        course = take_piece(course, &piece[..n], out);
+        turns -= 1;
+    }
+    course
+}
+
+// A session that waits is ended.
+fn finish(session: Session) -> Outcome {
+    if !waits(session) {
+        return session.outcome();
+    }
+    let ended = session.end();
+    let last = ended.session;
+    last.outcome()
+}
+
+fn print_end(course: Course) {
+    let numbers = numbers_of(finish(course.session));
+    io::write_all(STDOUT_FILENO, b"\nend ");
+    io::print_decimal(STDOUT_FILENO, numbers.number as u64);
+    io::write_all(STDOUT_FILENO, b" ");
+    io::print_decimal(STDOUT_FILENO, numbers.status as u64);
+    io::write_all(STDOUT_FILENO, b" used ");
+    io::print_decimal(STDOUT_FILENO, course.used);
+    io::write_all(STDOUT_FILENO, b"\nrest ");
+    io::print_decimal(STDOUT_FILENO, course.rest);
+    io::write_all(STDOUT_FILENO, b"\n");
+}
+
+fn main() {
+    let mut piece = [0u8; PIECE];
+    let mut out = [0u8; OUTPUT];
+    print_end(run(&mut piece, &mut out));
+}
