@@ -1,6 +1,7 @@
 // The client's side of a SOCKS handshake: a session that is opened, fed with pieces, and ended.
 mod checks;
 mod delivery;
+pub mod errors;
 mod opening;
 pub mod v4;
 pub mod v5;

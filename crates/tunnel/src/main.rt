@@ -6,17 +6,16 @@ use protocol::Outcome;
 use protocol::Port;
 use protocol::Record;
 use protocol::SocksConfig;
-use protocol::SocksError;
 use socks::Delivered;
 use socks::Lookup;
 use socks::Opened;
 use socks::Session;
+use socks::errors;
 use socks::v5;
 ghost use mathlib.Core.Path.{_≡_};
 ghost use Prim.Native.Nat.{_+_, _*_, _%_, _^_, _≤_, _<_};
 ghost use lib.ListN.{length, take};
 ghost use Rattle.io.specs.Digits.{glyph};
-ghost use Rattle.protocol.specs.Numbers.{number as Numbers·number, status as Numbers·status};
 ghost use Rattle.tunnel.specs.Lines.{hexOf, outcomeNumbers};
 
 const PIECE: usize = 513;
@@ -66,52 +65,6 @@ fn print_sent(out: &[u8], n: usize)
     print_hex(&out[..n]);
 }
 
-fn number(error: SocksError) -> u8
-    ensures { λ r. ⌜ r ≡ Numbers·number error ⌝ }
-{
-    match error {
-        SocksError::ShortOutput => 1,
-        SocksError::MissingHost => 2,
-        SocksError::HostByte => 3,
-        SocksError::MissingPort => 4,
-        SocksError::CredentialTooLong => 5,
-        SocksError::HostTooLong => 6,
-        SocksError::IpV6 => 7,
-        SocksError::DnsFailure => 8,
-        SocksError::UnexpectedEof => 9,
-        SocksError::Parsing => 10,
-        SocksError::WouldOverflow => 11,
-        SocksError::Unsupported => 12,
-        SocksError::MethodMismatch => 13,
-        SocksError::Failed => 14,
-        SocksError::Command(status) => 15,
-        SocksError::Settled => 16,
-    }
-}
-
-fn status(error: SocksError) -> u8
-    ensures { λ r. ⌜ r ≡ Numbers·status error ⌝ }
-{
-    match error {
-        SocksError::ShortOutput => 0,
-        SocksError::MissingHost => 0,
-        SocksError::HostByte => 0,
-        SocksError::MissingPort => 0,
-        SocksError::CredentialTooLong => 0,
-        SocksError::HostTooLong => 0,
-        SocksError::IpV6 => 0,
-        SocksError::DnsFailure => 0,
-        SocksError::UnexpectedEof => 0,
-        SocksError::Parsing => 0,
-        SocksError::WouldOverflow => 0,
-        SocksError::Unsupported => 0,
-        SocksError::MethodMismatch => 0,
-        SocksError::Failed => 0,
-        SocksError::Command(status) => status,
-        SocksError::Settled => 0,
-    }
-}
-
 // An outcome's number, 0 if it is open, and its status.
 struct Numbers {
     number: u8,
@@ -131,8 +84,8 @@ fn numbers_of(outcome: Outcome) -> Numbers
             status: 0,
         },
         Outcome::Failed(error) => Numbers {
-            number: number(error),
-            status: status(error),
+            number: errors::number(error),
+            status: errors::status(error),
         },
     }
 }
