@@ -1,13 +1,11 @@
 // A delivery: replies read from the held bytes and the piece, one after the other, with what they make due sent in between.
 ghost use mathlib.Core.Path.{_≡_};
 ghost use mathlib.Core.Bool.{true};
-ghost use mathlib.Core.List.{[], _++_};
+ghost use mathlib.Core.List.{_++_};
 ghost use Prim.Native.Nat.{_+_, _-_, _≤_, _<_, min};
-ghost use lib.ListN.{length, take, drop};
-ghost use lib.Dec.{leb};
+ghost use lib.ListN.{length, drop};
 ghost use Rattle.protocol.specs.Bytes.{byte};
 ghost use Rattle.protocol.specs.Replies.{decide};
-ghost use Rattle.protocol.specs.Requests.{authenticationReq, proxyReq, keptDestination};
 ghost use Rattle.protocol.specs.declared.Decision.the-variants as Decision;
 ghost use Rattle.protocol.specs.declared.Reply.the-variants as Reply;
 ghost use Rattle.protocol.specs.Client.{client, talkAt};

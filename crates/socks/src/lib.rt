@@ -7,7 +7,6 @@ pub mod v4;
 pub mod v5;
 
 ghost use mathlib.Core.Path.{_≡_};
-ghost use Prim.Native.Nat.{_≤_};
 ghost use lib.ListN.{drop};
 ghost use mathlib.Core.List.{[]};
 ghost use Rattle.socks.specs.Calls.{Delivers, delivered, refusal, deliver, endedBy, end};

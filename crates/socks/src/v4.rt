@@ -1,7 +1,6 @@
 // Opening a session over SOCKS4 and SOCKS4A.
 ghost use mathlib.Core.Path.{_≡_};
 ghost use mathlib.Core.Bool.{true, false, cond, not};
-ghost use mathlib.Core.List.{[]};
 ghost use Prim.Native.Nat.{_≤_};
 ghost use lib.ListN.{length, take};
 ghost use Rattle.protocol.specs.Host.{strip};
