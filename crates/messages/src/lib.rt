@@ -1,4 +1,5 @@
 // The messages of SOCKS5 and SOCKS4: requests written into a lent buffer at a place, replies decided on the unread bytes.
+pub mod reader;
 pub mod v4;
 pub mod v5;
 mod wire;

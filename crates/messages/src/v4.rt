@@ -9,7 +9,10 @@ ghost use Rattle.protocol.specs.Requests.{address, name, request};
 ghost use Rattle.protocol.specs.Replies.{responseVerdict, decide};
 ghost use Rattle.protocol.specs.declared.Reply.the-variants as Reply;
 ghost use Rattle.messages.specs.Written.{Wrote, Writes};
+ghost use Rattle.messages.specs.Reader.{responseAt};
 use crate::Written;
+use crate::reader::Reader;
+use crate::reader::Two;
 use crate::wire::copy;
 use crate::wire::has_room;
 use crate::wire::put_byte;
@@ -88,12 +91,34 @@ fn response_verdict(vn: u8, cd: u8) -> Verdict
     Verdict::Good
 }
 
-// Response: a zero, a status, and six bytes that only BIND uses.
+// The two bytes that are judged, and the six behind them, which only BIND uses.
+fn response_at(s: &[u8], at: usize) -> Two
+    ensures { λ p. ⌜ p ≡ responseAt (now (s .entry)) at ⌝ }
+{
+    let a = Reader { src: s, at }.take_byte();
+    let b = Reader {
+        src: a.src,
+        at: a.at,
+    }.take_byte();
+    let c = Reader {
+        src: b.src,
+        at: b.at,
+    }.take_bytes(6);
+    Two {
+        first: a.byte,
+        second: b.byte,
+        came: c.came,
+        at: c.at,
+    }
+}
+
+// Response: a zero, a status, and six bytes more.
 pub fn read_response(bytes: &[u8]) -> Decision
     ensures { λ r. ⌜ r ≡ decide Reply.Response (now (bytes .entry)) ⌝ }
 {
-    if bytes.len() < 8 {
-        return Decision::Undecided;
+    let p = response_at(bytes, 0);
+    if p.came {
+        return Decision::Decided(p.at, response_verdict(p.first, p.second));
     }
-    Decision::Decided(8, response_verdict(bytes[0], bytes[1]))
+    Decision::Undecided
 }

@@ -3,11 +3,11 @@ ghost use mathlib.Core.Path.{_≡_};
 ghost use mathlib.Core.Bool.{true, cond, not, _&&_, _||_};
 ghost use mathlib.Core.List.{[], _∷_};
 ghost use Prim.Native.Nat.{_+_, _≤_, _<_};
-ghost use lib.ListN.{length};
+ghost use lib.ListN.{length, take, drop};
 ghost use lib.Dec.{leb, eqb};
 ghost use Rattle.protocol.specs.AddressReading.{domain};
 ghost use Rattle.protocol.specs.Requests.{methodByte, negotiationReq, authenticationReq, addressField, proxyReq, kindOf, keptDestination};
-ghost use Rattle.protocol.specs.Replies.{negotiationVerdict, authenticationVerdict, headAllowed, typeAllowed, proxySize, proxyVerdict, nameField, wholeAt, typeAt, decide};
+ghost use Rattle.protocol.specs.Replies.{negotiationVerdict, authenticationVerdict, headAllowed, typeAllowed, proxySize, proxyVerdict, wholeAt, typeAt, decide};
 ghost use Rattle.protocol.specs.Bytes.{byte};
 ghost use Rattle.protocol.specs.Utf8.{isUtf8};
 ghost use Rattle.protocol.specs.declared.Reply.the-variants as Reply;
@@ -16,6 +16,9 @@ ghost use Rattle.protocol.specs.declared.SocksError.the-variants as SocksError;
 ghost use Rattle.messages.specs.Written.{Wrote, Writes};
 ghost use Rattle.messages.specs.Sizes.{addressSize};
 use crate::Written;
+use crate::reader::bytes_at;
+use crate::reader::three_at;
+use crate::reader::two_at;
 use crate::wire::copy;
 use crate::wire::has_room;
 use crate::wire::put_byte;
@@ -192,10 +195,11 @@ fn negotiation_verdict(sent: AuthMethod, ver: u8, method: u8) -> Verdict
 pub fn read_negotiation_res(bytes: &[u8], sent: AuthMethod) -> Decision
     ensures { λ r. ⌜ r ≡ decide (Reply.NegotiationRes sent) (now (bytes .entry)) ⌝ }
 {
-    if bytes.len() < 2 {
-        return Decision::Undecided;
+    let p = two_at(bytes, 0);
+    if p.came {
+        return Decision::Decided(p.at, negotiation_verdict(sent, p.first, p.second));
     }
-    Decision::Decided(2, negotiation_verdict(sent, bytes[0], bytes[1]))
+    Decision::Undecided
 }
 
 fn authentication_verdict(ver: u8, status: u8) -> Verdict
@@ -214,10 +218,11 @@ fn authentication_verdict(ver: u8, status: u8) -> Verdict
 pub fn read_authentication_res(bytes: &[u8]) -> Decision
     ensures { λ r. ⌜ r ≡ decide Reply.AuthenticationRes (now (bytes .entry)) ⌝ }
 {
-    if bytes.len() < 2 {
-        return Decision::Undecided;
+    let p = two_at(bytes, 0);
+    if p.came {
+        return Decision::Decided(p.at, authentication_verdict(p.first, p.second));
     }
-    Decision::Decided(2, authentication_verdict(bytes[0], bytes[1]))
+    Decision::Undecided
 }
 
 // Whether the first three bytes of a ProxyRes may stand.
@@ -249,38 +254,37 @@ fn type_allowed(atyp: u8, len: u8) -> bool
     0 < len
 }
 
-// How many bytes a ProxyRes has.
-fn proxy_size(atyp: u8, len: u8) -> usize
-    ensures { λ r. ⌜ (r ≡ proxySize atyp len) × (7 ≤ r) ⌝ }
+// How many bytes of a ProxyRes stand behind its first five.
+fn rest_size(atyp: u8, len: u8) -> usize
+    ensures { λ r. ⌜ 5 + r ≡ proxySize atyp len ⌝ }
 {
     if atyp == 0x01 {
-        return 10;
+        return 5;
     }
     if atyp == 0x04 {
-        return 22;
+        return 17;
     }
-    7 + wide(len)
+    2 + wide(len)
 }
 
-// Whether the name of a whole ProxyRes is UTF-8, where it has one.
-fn name_allowed(bytes: &[u8]) -> bool
-    requires { ⌜ (5 ≤ length (now bytes)) × (proxySize (byte (now bytes) 3) (byte (now bytes) 4) ≤ length (now bytes)) ⌝ }
-    ensures { λ r. ⌜ r ≡ (not (eqb (byte (now (bytes .entry)) 3) 0x03) || isUtf8 (nameField (now (bytes .entry)))) ⌝ }
+// Whether the name at a place is UTF-8, where there is one.
+fn name_allowed(bytes: &[u8], at: usize, atyp: u8, len: u8) -> bool
+    requires { ⌜ (atyp ≡ 0x03 → at + len ≤ length (now bytes)) ⌝ }
+    ensures { λ r. ⌜ r ≡ (not (eqb atyp 0x03) || isUtf8 (take len (drop at (now (bytes .entry))))) ⌝ }
 {
-    if bytes[3] != 0x03 {
+    if atyp != 0x03 {
         return true;
     }
-    let end = 5 + wide(bytes[4]);
-    utf8::is_utf8(&bytes[5..end])
+    let end = at + wide(len);
+    utf8::is_utf8(&bytes[at..end])
 }
 
-// How a whole ProxyRes is judged.
-fn proxy_verdict(bytes: &[u8]) -> Verdict
-    requires { ⌜ (5 ≤ length (now bytes)) × (proxySize (byte (now bytes) 3) (byte (now bytes) 4) ≤ length (now bytes)) ⌝ }
-    ensures { λ r. ⌜ r ≡ proxyVerdict (byte (now (bytes .entry)) 1) (byte (now (bytes .entry)) 3) (nameField (now (bytes .entry))) ⌝ }
+// How a whole ProxyRes is judged, whose name would stand at a place.
+fn proxy_verdict(bytes: &[u8], at: usize, rep: u8, atyp: u8, len: u8) -> Verdict
+    requires { ⌜ (atyp ≡ 0x03 → at + len ≤ length (now bytes)) ⌝ }
+    ensures { λ r. ⌜ r ≡ proxyVerdict rep atyp (take len (drop at (now (bytes .entry)))) ⌝ }
 {
-    if name_allowed(bytes) {
-        let rep = bytes[1];
+    if name_allowed(bytes, at, atyp, len) {
         if rep != 0x00 {
             return Verdict::Bad(SocksError::Command(rep));
         }
@@ -289,37 +293,43 @@ fn proxy_verdict(bytes: &[u8]) -> Verdict
     Verdict::Bad(SocksError::Parsing)
 }
 
-fn whole_at(bytes: &[u8], size: usize) -> Decision
-    requires { ⌜ (5 ≤ length (now bytes)) × (size ≡ proxySize (byte (now bytes) 3) (byte (now bytes) 4)) ⌝ }
-    ensures { λ r. ⌜ r ≡ wholeAt size (now (bytes .entry)) ⌝ }
+// A ProxyRes behind its first five bytes, whose type may stand.
+fn whole_at(bytes: &[u8], at: usize, rep: u8, atyp: u8, len: u8) -> Decision
+    requires { ⌜ (at ≡ 5) × (rep ≡ byte (now bytes) 1) × (atyp ≡ byte (now bytes) 3) × (len ≡ byte (now bytes) 4) ⌝ }
+    ensures { λ r. ⌜ r ≡ wholeAt (proxySize atyp len) (now (bytes .entry)) ⌝ }
 {
-    if bytes.len() < size {
-        return Decision::Undecided;
+    let p = bytes_at(bytes, at, rest_size(atyp, len));
+    if p.came {
+        return Decision::Decided(p.at, proxy_verdict(bytes, at, rep, atyp, len));
     }
-    Decision::Decided(size, proxy_verdict(bytes))
+    Decision::Undecided
 }
 
-fn type_at(bytes: &[u8]) -> Decision
+// A ProxyRes from its type on, whose head may stand.
+fn type_at(bytes: &[u8], at: usize, rep: u8) -> Decision
+    requires { ⌜ (at ≡ 3) × (rep ≡ byte (now bytes) 1) ⌝ }
     ensures { λ r. ⌜ r ≡ typeAt (now (bytes .entry)) ⌝ }
 {
-    if bytes.len() < 5 {
-        return Decision::Undecided;
+    let t = two_at(bytes, at);
+    if t.came {
+        if type_allowed(t.first, t.second) {
+            return whole_at(bytes, t.at, rep, t.first, t.second);
+        }
+        return Decision::Decided(t.at, Verdict::Bad(SocksError::Parsing));
     }
-    if type_allowed(bytes[3], bytes[4]) {
-        return whole_at(bytes, proxy_size(bytes[3], bytes[4]));
-    }
-    Decision::Decided(5, Verdict::Bad(SocksError::Parsing))
+    Decision::Undecided
 }
 
 // ProxyRes: the version, a status, a reserved byte, the address field, the port. Decided at 3 bytes, at 5, or whole.
 pub fn read_proxy_res(bytes: &[u8]) -> Decision
     ensures { λ r. ⌜ r ≡ decide Reply.ProxyRes (now (bytes .entry)) ⌝ }
 {
-    if bytes.len() < 3 {
-        return Decision::Undecided;
+    let h = three_at(bytes, 0);
+    if h.came {
+        if head_allowed(h.first, h.second, h.third) {
+            return type_at(bytes, h.at, h.second);
+        }
+        return Decision::Decided(h.at, Verdict::Bad(SocksError::Parsing));
     }
-    if head_allowed(bytes[0], bytes[1], bytes[2]) {
-        return type_at(bytes);
-    }
-    Decision::Decided(3, Verdict::Bad(SocksError::Parsing))
+    Decision::Undecided
 }

@@ -18,8 +18,7 @@ use Rattle.socks.specs.declared.Stage.{Stage}
 use Rattle.socks.specs.declared.Stage.the-variants.{Awaiting, Open, Failed}
 use Rattle.socks.specs.declared.Kept.{Kept}
 use Rattle.socks.specs.Session.{requestsOf}
-use Rattle.socks.specs.Lookup.{plainly}
-use Rattle.socks.specs.Steps.{Due, dueIf, dueAt, rank, followBy, dueFollow, firstStage, dueBegin, Sends}
+use Rattle.socks.specs.Steps.{Due, dueIf, dueAt, rank, followBy, dueFollow, firstStage, dueBegin, plainly, Sends}
 use Rattle.socks.proofs.Turning.{awaits}
 
 pub greeting-size : (m : AuthMethod) → length (negotiationReq m) ≡ 3

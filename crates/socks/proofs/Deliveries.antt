@@ -91,6 +91,9 @@ packed-settled s (Awaiting e) rest z = absurd (awaits e z)
 packed-settled s Open rest z = refl
 packed-settled s (Failed x) rest z = refl
 
+pub packed-failed : (s : Session) {stage : Stage} {x : SocksError} (rest : List ℕ) → stage ≡ Failed x → record { stage = Failed x; held = 0; hold = s .hold; kept = s .kept } ≡ packed s (viewAt stage rest)
+packed-failed s {stage} {x} rest e = rw e (packed-settled s (Failed x) rest refl)
+
 pub packed-waits : (s : Session) {stage : Stage} {e : Reply} (h p : List ℕ) (place : ℕ) {next : List ℕ} → stage ≡ Awaiting e → next ≡ overwrite (s .hold) 0 (drop place (h ++ p))
     → record { stage = Awaiting e; held = length h + length p - place; hold = next; kept = s .kept } ≡ packed s (viewAt stage (drop place (h ++ p)))
 unfolding overwrite

@@ -19,8 +19,8 @@ use Rattle.host.specs.Answers.{addressText}
 use Rattle.messages.specs.declared.Written.{Written}
 use Rattle.messages.specs.Written.{Writes}
 use Rattle.messages.proofs.Laws.{fitted}
-use Rattle.socks.specs.declared.Lookup.{Lookup}
-use Rattle.socks.specs.Lookup.{recordsOf}
+use Rattle.lookup.specs.declared.Lookup.{Lookup}
+use Rattle.lookup.specs.Chosen.{recordsOf}
 use Rattle.socks.specs.Calls.{padded, addressOf, keptWith}
 use Rattle.socks.proofs.Deliveries.{at-start}
 
@@ -84,10 +84,10 @@ module _ (name : List ℕ) (l : Bool) (chosen : Lookup) where
   abbrev Asked : Destination
   Asked = cond l (orElse (firstRecord (recordsOf chosen)) (domain name)) (domain name)
 
-  pub looked-up : l && chosen .found ≡ true → recordFamily (chosen .record .family) (chosen .record .address) ≡ Asked
+  pub looked-up : l && chosen .found ≡ true → recordFamily (chosen .first .family) (chosen .first .address) ≡ Asked
   looked-up e = go l (chosen .found) refl refl e
     where
-      go : (b c : Bool) → l ≡ b → chosen .found ≡ c → b && c ≡ true → recordFamily (chosen .record .family) (chosen .record .address) ≡ Asked
+      go : (b c : Bool) → l ≡ b → chosen .found ≡ c → b && c ≡ true → recordFamily (chosen .first .family) (chosen .first .address) ≡ Asked
       go true true p q e = rw (p, q)
       go true false p q e = absurd (no (sym e))
       go false c p q e = absurd (no (sym e))

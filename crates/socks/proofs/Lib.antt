@@ -12,3 +12,4 @@ pub mod Accepting
 pub mod Requesting
 pub mod Examples
 pub mod Refusals
+pub mod Records

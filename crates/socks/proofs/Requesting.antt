@@ -26,10 +26,10 @@ use Rattle.messages.specs.Written.{Wrote, Writes}
 use Rattle.messages.proofs.Laws.{fitted, at-place}
 use Rattle.socks.specs.declared.Stage.the-variants.{Awaiting}
 use Rattle.socks.specs.declared.Kept.{Kept}
-use Rattle.socks.specs.declared.Lookup.{Lookup}
+use Rattle.lookup.specs.declared.Lookup.{Lookup}
 use Rattle.socks.specs.declared.Session.{Session}
 use Rattle.socks.specs.Session.{viewAt, packed}
-use Rattle.socks.specs.Lookup.{recordsOf}
+use Rattle.lookup.specs.Chosen.{recordsOf}
 use Rattle.socks.specs.Accepted.{placeOf}
 use Rattle.socks.specs.Calls.{nothingKept, emptySession, openBy, Opens}
 use Rattle.socks.proofs.Deliveries.{at-start}
@@ -62,8 +62,8 @@ module _ (s : List ℕ) (l : Bool) (chosen : Lookup) where
   by-family f true false bs e = absurd (no (sym e))
   by-family f false c bs e = absurd (no (sym e))
 
-  pub looked-up4 : l && not (isNone (firstFour (recordsOf chosen))) ≡ true → address (take 4 (chosen .record .address)) ≡ Asked
-  looked-up4 e = by-family (chosen .record .family) l (chosen .found) (chosen .record .address) e
+  pub looked-up4 : l && not (isNone (firstFour (recordsOf chosen))) ≡ true → address (take 4 (chosen .first .address)) ≡ Asked
+  looked-up4 e = by-family (chosen .first .family) l (chosen .found) (chosen .first .address) e
 
   or-name : (f : Family) (b c : Bool) (bs : List ℕ) → b && not (isNone (firstFour (cond c (record { family = f; address = bs } ∷ []) []))) ≡ false
       → name s ≡ cond b (foundFour (firstFour (cond c (record { family = f; address = bs } ∷ []) [])) s) (name s)
@@ -74,7 +74,7 @@ module _ (s : List ℕ) (l : Bool) (chosen : Lookup) where
   or-name f false c bs e = refl
 
   pub as-it-is4 : l && not (isNone (firstFour (recordsOf chosen))) ≡ false → name s ≡ Asked
-  as-it-is4 e = or-name (chosen .record .family) l (chosen .found) (chosen .record .address) e
+  as-it-is4 e = or-name (chosen .first .family) l (chosen .found) (chosen .first .address) e
 
 pub asked4-ipv4 : (l : Bool) (rs : List Record) (d : Destination) (t : AddressText) → t ≡ addressText d → t .kind ≡ Ipv4 → length (t .bytes) ≡ 16 → address (take 4 (t .bytes)) ≡ asked4 l rs d
 asked4-ipv4 l rs (ipv4 bs) t e k n =

@@ -1,9 +1,10 @@
 -- What the checks of an accepted opening give the code that follows them.
 use Prim.Native.Nat.{ℕ, _≤_}
 use mathlib.Core.Path.{_≡_}
-use mathlib.Core.Bool.{Bool, true, false, cond}
-use mathlib.Core.List.{[]}
+use mathlib.Core.Bool.{Bool, true, false, cond, _&&_, not}
+use mathlib.Core.List.{List, []}
 use lib.ListN.{length}
+use lib.Dec.{ltb}
 use Rattle.protocol.specs.declared.AuthMethod.{AuthMethod}
 use Rattle.protocol.specs.declared.AuthMethod.the-variants.{NoAuth, UserPass}
 use Rattle.protocol.specs.Host.{strip}
@@ -29,3 +30,7 @@ pub record Short4 (a : V4) : Type 0 where
 abbrev pub placeOf : Written → ℕ
 placeOf (At n) = n
 placeOf WouldOverflow = 0
+
+-- whether a list of records is read: local lookup is on, and the host is a name of no more bytes than a request takes
+abbrev pub looksUp : Bool → List ℕ → ℕ → Bool
+looksUp local host most = local && (not (ltb most (length (strip host))) && isName (destinationOf (strip host)))

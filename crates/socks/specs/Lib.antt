@@ -1,5 +1,4 @@
 pub mod Session
-pub mod Lookup
 pub mod Calls
 pub mod Demand3
 pub mod Steps

@@ -17,6 +17,7 @@ use Rattle.protocol.specs.declared.Decision.the-variants.{Undecided, Decided}
 use Rattle.protocol.specs.Requests.{negotiationReq}
 use Rattle.protocol.specs.Replies.{decide}
 use Rattle.protocol.specs.Client.{Kept, talkAt, client}
+use Rattle.socks.specs.declared.Kept as kept
 use Rattle.socks.specs.declared.Stage.{Stage}
 use Rattle.socks.specs.declared.Stage.the-variants.{Awaiting, Open, Failed}
 use Rattle.socks.specs.Session.{viewAt}
@@ -158,6 +159,11 @@ abbrev pub firstStage : AuthMethod → Stage → Stage
 firstStage m (Awaiting e) = Awaiting (NegotiationRes m)
 firstStage m Open = Open
 firstStage m (Failed x) = Failed x
+
+-- what is kept, with its requests still to come
+abbrev pub plainly : kept.Kept → kept.Kept
+plainly k =
+    record { optimistic = false; address = k .address; user = k .user; «user_len» = k .«user_len»; password = k .password; «password_len» = k .«password_len» }
 
 abbrev pub dueBegin : Bool → AuthMethod → Due → Due
 dueBegin false m f = record { sent = negotiationReq m; stage = Awaiting (NegotiationRes m) }

@@ -9,8 +9,8 @@ ghost use Rattle.protocol.specs.AddressReading.{destinationOf};
 ghost use Rattle.protocol.specs.Requests.{kindOf};
 ghost use Rattle.protocol.specs.Opening.{isEmpty, isMissing, isName, isIpv6, isNone, firstRecord, firstFour, check5, check4};
 ghost use Rattle.host.specs.Answers.{addressText};
-ghost use Rattle.socks.specs.Lookup.{recordsOf};
-use crate::Lookup;
+ghost use Rattle.lookup.specs.Chosen.{recordsOf};
+use lookup::Lookup;
 use protocol::AddressKind;
 use protocol::Answer;
 use protocol::Family;
@@ -49,13 +49,13 @@ fn credentials_too_long(auth: bool, user: &[u8], password: &[u8]) -> bool
 }
 
 // What the host is as address text.
-fn kind_of(host: &[u8]) -> AddressKind
+pub fn kind_of(host: &[u8]) -> AddressKind
     ensures { λ r. ⌜ r ≡ addressText (destinationOf (strip (now (host .entry)))) .kind ⌝ }
 {
     host::read_address(host::strip_ipv6_brackets(host)).kind
 }
 
-fn is_name(kind: AddressKind) -> bool
+pub fn is_name(kind: AddressKind) -> bool
     ensures { λ r. ⌜ r ≡ isName (kindOf kind []) ⌝ }
 {
     match kind {
@@ -94,7 +94,7 @@ pub fn finds_no_four(chosen: Lookup) -> bool
     if !chosen.found {
         return true;
     }
-    let first = chosen.record;
+    let first = chosen.first;
     let family = first.family;
     match family {
         Family::Four => false,

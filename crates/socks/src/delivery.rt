@@ -10,19 +10,15 @@ ghost use Rattle.protocol.specs.declared.Decision.the-variants as Decision;
 ghost use Rattle.protocol.specs.declared.Reply.the-variants as Reply;
 ghost use Rattle.protocol.specs.Client.{client, talkAt};
 ghost use Rattle.messages.specs.Written.{overwrite, Writes};
-ghost use Rattle.socks.specs.Session.{requestsOf, sideOf, heldBytes, viewAt, view, packed};
-ghost use Rattle.socks.specs.Calls.{moves, takes, Delivers};
+ghost use Rattle.socks.specs.Session.{requestsOf};
 ghost use Rattle.socks.specs.Steps.{dueAt, dueMethod, dueAfter, dueJudged, isGood, sentBefore, Sends, Turns, Worked, heldCount};
 ghost use Rattle.socks.specs.declared.Stage.the-variants as Stage;
-ghost use Rattle.talk.specs.Talk.{feed, onward, heldBy};
-use crate::Delivered;
+ghost use Rattle.talk.specs.Talk.{feed};
 use crate::Kept;
-use crate::Session;
 use crate::Stage;
 use messages::Written;
 use messages::v4;
 use messages::v5;
-use protocol::Answer;
 use protocol::AuthMethod;
 use protocol::Decision;
 use protocol::Reply;
@@ -41,7 +37,7 @@ fn read_reply(reply: Reply, bytes: &[u8]) -> Decision
     }
 }
 
-fn least(a: usize, b: usize) -> usize
+pub fn least(a: usize, b: usize) -> usize
     ensures { λ r. ⌜ r ≡ min a b ⌝ }
 {
     if a < b { a } else { b }
@@ -199,11 +195,11 @@ fn send_after(kept: Kept, reply: Reply, out: &mut [u8], at: usize) -> Due
 }
 
 // Where a delivery stands: the stage, the place in the held bytes and the piece, the place in the output, and whether another turn follows.
-struct Turn {
-    stage: Stage,
-    place: usize,
-    sent: usize,
-    again: bool,
+pub struct Turn {
+    pub stage: Stage,
+    pub place: usize,
+    pub sent: usize,
+    pub again: bool,
 }
 
 // What a verdict makes due.
@@ -286,7 +282,7 @@ fn turn_on(kept: Kept, turn: Turn, held: &[u8], piece: &[u8], out: &mut [u8]) ->
 }
 
 // Works through held bytes and a piece until the session waits, opens or fails: at most three replies.
-fn work(kept: Kept, reply: Reply, held: &[u8], piece: &[u8], out: &mut [u8]) -> Turn
+pub fn work(kept: Kept, reply: Reply, held: &[u8], piece: &[u8], out: &mut [u8]) -> Turn
     requires { ⌜ (length (now held) ≤ 261) × (262 ≤ length (now out)) ⌝ }
     ensures { λ r. ⌜ Worked (feed (client (requestsOf kept)) (talkAt (requestsOf kept) reply) (now (held .entry) ++ now (piece .entry))) (now (held .entry) ++ now (piece .entry)) (now (out .entry)) (r .stage) (r .place) (r .sent) (now (out .exit)) ⌝ }
 {
@@ -308,7 +304,7 @@ fn work(kept: Kept, reply: Reply, held: &[u8], piece: &[u8], out: &mut [u8]) -> 
 }
 
 // The hold with what is unread of held bytes and a piece at its start. Every byte behind that stays.
-fn keep_rest(hold: [u8; 261], held: &[u8], piece: &[u8], place: usize) -> [u8; 261]
+pub fn keep_rest(hold: [u8; 261], held: &[u8], piece: &[u8], place: usize) -> [u8; 261]
     requires { ⌜ (length (now held) ≤ 261) × (place ≤ length (now held) + length (now piece)) × (length (now held) + length (now piece) ≤ place + 261) ⌝ }
     ensures { λ r. ⌜ r ≡ overwrite hold 0 (drop place (now (held .entry) ++ now (piece .entry))) ⌝ }
 {
@@ -324,41 +320,8 @@ fn keep_rest(hold: [u8; 261], held: &[u8], piece: &[u8], place: usize) -> [u8; 2
     next
 }
 
-// The session where a delivery stands: what is unread is held by one that waits.
-fn after(session: Session, held: &[u8], turn: Turn, piece: &[u8]) -> Session
-    requires { ⌜ (length (now held) ≤ 261) × (turn .place ≤ length (now held) + length (now piece)) × (length (heldBy (viewAt (turn .stage) (drop (turn .place) (now held ++ now piece)))) ≤ 261) ⌝ }
-    ensures { λ r. ⌜ r ≡ packed session (viewAt (turn .stage) (drop (turn .place) (now (held .entry) ++ now (piece .entry)))) ⌝ }
-{
-    let stage = turn.stage;
-    let kept = session.kept;
-    let hold = session.hold;
-    match stage {
-        Stage::Awaiting(reply) => {
-            let next = keep_rest(hold, held, piece, turn.place);
-            Session {
-                stage: stage,
-                held: held.len() + piece.len() - turn.place,
-                hold: next,
-                kept: kept,
-            }
-        }
-        Stage::Open => Session {
-            stage: stage,
-            held: 0,
-            hold: hold,
-            kept: kept,
-        },
-        Stage::Failed(error) => Session {
-            stage: stage,
-            held: 0,
-            hold: hold,
-            kept: kept,
-        },
-    }
-}
-
 // How many bytes of a piece of so many were used, behind n held ones.
-fn used(turn: Turn, n: usize, len: usize) -> usize
+pub fn used(turn: Turn, n: usize, len: usize) -> usize
     requires { ⌜ (turn .place ≤ n + len) ⌝ }
     ensures { λ r. ⌜ r ≡ turn .place + heldCount (turn .stage) (n + len - turn .place) - n ⌝ }
 {
@@ -374,43 +337,4 @@ fn behind(place: usize, n: usize) -> usize
     ensures { λ r. ⌜ r ≡ place - n ⌝ }
 {
     if place < n { 0 } else { place - n }
-}
-
-// Takes a piece behind the held bytes, at a stage that waits for a reply.
-fn take_piece(
-    session: Session,
-    reply: Reply,
-    held: &[u8],
-    piece: &[u8],
-    out: &mut [u8],
-) -> Delivered
-    requires { ⌜ (session .stage ≡ Stage.Awaiting reply) × (now held ≡ heldBytes session) × (length (now held) ≤ 261) × (262 ≤ length (now out)) ⌝ }
-    ensures { λ r. ⌜ Delivers (moves session (onward (sideOf session) (view session) (now (piece .entry))) (now (out .entry))) (now (piece .entry)) r (now (out .exit)) ⌝ }
-{
-    let kept = session.kept;
-    let turn = work(kept, reply, held, piece, out);
-    Delivered {
-        answer: Answer::Accepted,
-        used: used(turn, held.len(), piece.len()),
-        sent: turn.sent,
-        session: after(session, held, turn, piece),
-    }
-}
-
-// A delivery to a session that waits for a reply. An empty piece changes nothing.
-pub fn deliver(session: Session, reply: Reply, piece: &[u8], out: &mut [u8]) -> Delivered
-    requires { ⌜ (session .stage ≡ Stage.Awaiting reply) × (262 ≤ length (now out)) ⌝ }
-    ensures { λ r. ⌜ Delivers (takes session (now (piece .entry)) (now (out .entry))) (now (piece .entry)) r (now (out .exit)) ⌝ }
-{
-    if piece.len() == 0 {
-        return Delivered {
-            answer: Answer::Accepted,
-            used: 0,
-            sent: 0,
-            session: session,
-        };
-    }
-    let hold = session.hold;
-    let n = least(session.held, 261);
-    take_piece(session, reply, &hold[..n], piece, out)
 }

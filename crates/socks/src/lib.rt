@@ -2,20 +2,23 @@
 mod checks;
 mod delivery;
 pub mod errors;
+mod lookups;
 mod opening;
 pub mod v4;
 pub mod v5;
 
 ghost use mathlib.Core.Path.{_≡_};
-ghost use lib.ListN.{drop};
-ghost use mathlib.Core.List.{[]};
-ghost use Rattle.socks.specs.Calls.{Delivers, delivered, refusal, deliver, endedBy, end};
+ghost use mathlib.Core.List.{[], _++_};
+ghost use Prim.Native.Nat.{_+_, _≤_};
+ghost use lib.ListN.{length, drop};
+ghost use Rattle.socks.specs.Calls.{Delivers, delivered, refusal, moves, takes, deliver, endedBy, end};
 ghost use Rattle.socks.specs.declared.Stage.the-variants as Stage;
-ghost use Rattle.socks.specs.Session.{outcome};
+ghost use Rattle.socks.specs.Session.{sideOf, heldBytes, viewAt, view, packed, outcome};
+ghost use Rattle.talk.specs.Talk.{onward, heldBy};
+use crate::delivery::Turn;
 use protocol::Address;
 use protocol::Answer;
 use protocol::Outcome;
-use protocol::Record;
 use protocol::Reply;
 use protocol::SocksError;
 
@@ -62,12 +65,6 @@ pub struct Ended {
     pub session: Session,
 }
 
-// A lookup's chosen record, if there is one.
-pub struct Lookup {
-    pub found: bool,
-    pub record: Record,
-}
-
 impl Session {
     // Takes a piece, and puts what it makes due at the output's start. Refused if the session is settled, or the output has less than 262 bytes.
     pub fn deliver(self, piece: &[u8], out: &mut [u8]) -> Delivered
@@ -99,7 +96,77 @@ impl Session {
         if out.len() < 262 {
             return self.refused(SocksError::ShortOutput);
         }
-        delivery::deliver(self, reply, piece, out)
+        self.take(reply, piece, out)
+    }
+
+    // A delivery to a session that waits for a reply. An empty piece changes nothing.
+    fn take(self, reply: Reply, piece: &[u8], out: &mut [u8]) -> Delivered
+        requires { ⌜ (self .stage ≡ Stage.Awaiting reply) × (262 ≤ length (now out)) ⌝ }
+        ensures { λ r. ⌜ Delivers (takes self (now (piece .entry)) (now (out .entry))) (now (piece .entry)) r (now (out .exit)) ⌝ }
+    {
+        if piece.len() == 0 {
+            return Delivered {
+                answer: Answer::Accepted,
+                used: 0,
+                sent: 0,
+                session: self,
+            };
+        }
+        let hold = self.hold;
+        let n = delivery::least(self.held, 261);
+        self.take_piece(reply, &hold[..n], piece, out)
+    }
+
+    // Takes a piece behind the held bytes, at a stage that waits for a reply.
+    fn take_piece(self, reply: Reply, held: &[u8], piece: &[u8], out: &mut [u8]) -> Delivered
+        requires { ⌜ (self .stage ≡ Stage.Awaiting reply) × (now held ≡ heldBytes self) × (length (now held) ≤ 261) × (262 ≤ length (now out)) ⌝ }
+        ensures { λ r. ⌜ Delivers (moves self (onward (sideOf self) (view self) (now (piece .entry))) (now (out .entry))) (now (piece .entry)) r (now (out .exit)) ⌝ }
+    {
+        let kept = self.kept;
+        let turn = delivery::work(kept, reply, held, piece, out);
+        Delivered {
+            answer: Answer::Accepted,
+            used: delivery::used(turn, held.len(), piece.len()),
+            sent: turn.sent,
+            session: self.after(held, turn, piece),
+        }
+    }
+
+    // The session where a delivery stands: what is unread is held by one that waits.
+    fn after(self, held: &[u8], turn: Turn, piece: &[u8]) -> Session
+        requires { ⌜ (length (now held) ≤ 261) × (turn .place ≤ length (now held) + length (now piece)) × (length (heldBy (viewAt (turn .stage) (drop (turn .place) (now held ++ now piece)))) ≤ 261) ⌝ }
+        ensures { λ r. ⌜ r ≡ packed self (viewAt (turn .stage) (drop (turn .place) (now (held .entry) ++ now (piece .entry)))) ⌝ }
+    {
+        let stage = turn.stage;
+        let kept = self.kept;
+        let hold = self.hold;
+        match stage {
+            Stage::Awaiting(reply) => {
+                let next = delivery::keep_rest(hold, held, piece, turn.place);
+                Session {
+                    stage: stage,
+                    held: held.len() + piece.len() - turn.place,
+                    hold: next,
+                    kept: kept,
+                }
+            }
+            Stage::Open => self.settled(stage),
+            Stage::Failed(error) => self.settled(stage),
+        }
+    }
+
+    // Settling changes the stage and the number of held bytes, and nothing else.
+    fn settled(self, stage: Stage) -> Session
+        ensures { λ r. ⌜ r ≡ record { stage = stage; held = 0; hold = self .hold; kept = self .kept } ⌝ }
+    {
+        let hold = self.hold;
+        let kept = self.kept;
+        Session {
+            stage: stage,
+            held: 0,
+            hold: hold,
+            kept: kept,
+        }
     }
 
     // The stream has ended: a session that waits has failed. Refused if it is settled.
@@ -107,17 +174,10 @@ impl Session {
         ensures { λ r. ⌜ r ≡ endedBy (end self) ⌝ }
     {
         let stage = self.stage;
-        let hold = self.hold;
-        let kept = self.kept;
         match stage {
             Stage::Awaiting(reply) => Ended {
                 answer: Answer::Accepted,
-                session: Session {
-                    stage: Stage::Failed(SocksError::UnexpectedEof),
-                    held: 0,
-                    hold: hold,
-                    kept: kept,
-                },
+                session: self.settled(Stage::Failed(SocksError::UnexpectedEof)),
             },
             Stage::Open => Ended {
                 answer: Answer::Refused(SocksError::Settled),

@@ -8,15 +8,15 @@ ghost use Rattle.protocol.specs.Host.{strip};
 ghost use Rattle.protocol.specs.AddressReading.{ipv4, ipv6, domain, destinationOf};
 ghost use Rattle.protocol.specs.Requests.{kindOf};
 ghost use Rattle.protocol.specs.Opening.{recordFamily, firstRecord, isName, portNumber, orElse, asked5};
-ghost use Rattle.socks.specs.Lookup.{recordsOf};
+ghost use Rattle.lookup.specs.Chosen.{recordsOf};
 ghost use Rattle.socks.specs.Calls.{refusal, opened, padded, addressOf, keptWith, nothingKept, emptySession};
 ghost use Rattle.socks.specs.Session.{viewAt, packed};
 ghost use Rattle.protocol.specs.declared.SocksError.the-variants as SocksError;
 use crate::Kept;
-use crate::Lookup;
 use crate::Opened;
 use crate::Session;
 use crate::Stage;
+use lookup::Lookup;
 use protocol::Address;
 use protocol::AddressKind;
 use protocol::Answer;
@@ -110,7 +110,7 @@ fn named(name: &[u8], port: u16, lookup: bool, chosen: Lookup) -> Address
     ensures { λ r. ⌜ r ≡ addressOf (cond lookup (orElse (firstRecord (recordsOf chosen)) (domain (now (name .entry)))) (domain (now (name .entry)))) port ⌝ }
 {
     if both(lookup, chosen.found) {
-        let found = chosen.record;
+        let found = chosen.first;
         return recorded(found, port);
     }
     address(AddressKind::Domain, name, port)

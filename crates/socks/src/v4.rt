@@ -9,20 +9,23 @@ ghost use Rattle.protocol.specs.Requests.{address, name, request};
 ghost use Rattle.protocol.specs.Opening.{firstFour, isNone, isName, isIpv6, foundFour, asked4, check4, opening4};
 ghost use Rattle.protocol.specs.declared.Answer.the-variants as Answer;
 ghost use Rattle.messages.specs.Written.{Wrote};
-ghost use Rattle.socks.specs.Lookup.{recordsOf};
+ghost use Rattle.lookup.specs.Chosen.{recordsOf};
 ghost use Rattle.socks.specs.Accepted.{placeOf};
 ghost use Rattle.socks.specs.Calls.{openBy, Opens, open4};
-use crate::Lookup;
 use crate::Opened;
 use crate::Stage;
 use crate::checks::check4;
 use crate::checks::finds_no_four;
+use crate::lookups::wanted4;
 use crate::opening;
+use lookup::Lookup;
+use lookup::choose;
 use messages::Written;
 use messages::v4;
 use protocol::AddressKind;
 use protocol::Answer;
 use protocol::Port;
+use protocol::Record;
 use protocol::Reply;
 
 // The place behind what was written, where there was room.
@@ -64,7 +67,7 @@ fn send_name(text: &[u8], port: u16, lookup: bool, chosen: Lookup, out: &mut [u8
     ensures { λ r. ⌜ Wrote (now (out .entry)) 0 (request (cond lookup (foundFour (firstFour (recordsOf chosen)) (now (text .entry))) (name (now (text .entry)))) port) r (now (out .exit)) ⌝ }
 {
     if opening::both(lookup, finds_four(chosen)) {
-        let found = chosen.record;
+        let found = chosen.first;
         let bytes = found.address;
         return send_address(bytes, port, out);
     }
@@ -100,8 +103,8 @@ fn accept(local_dns: bool, host: &[u8], port: Port, chosen: Lookup, out: &mut [u
     }
 }
 
-// Opens a session over SOCKS4: its request stands at the output's start. A refused opening leaves the output as it was.
-pub fn open(local_dns: bool, host: &[u8], port: Port, chosen: Lookup, out: &mut [u8]) -> Opened
+// An opening with the record chosen.
+fn open_chosen(local_dns: bool, host: &[u8], port: Port, chosen: Lookup, out: &mut [u8]) -> Opened
     ensures { λ r. ⌜ Opens (open4 (record { localDns = «local_dns»; host = now (host .entry); port = port; records = recordsOf chosen }) (now (out .entry))) r (now (out .exit)) ⌝ }
 {
     let answer = check4(local_dns, host, port, chosen, out.len());
@@ -109,4 +112,14 @@ pub fn open(local_dns: bool, host: &[u8], port: Port, chosen: Lookup, out: &mut 
         Answer::Accepted => accept(local_dns, host, port, chosen, out),
         Answer::Refused(error) => opening::refuse(error),
     }
+}
+
+// Opens a session over SOCKS4: its request stands at the output's start. A refused opening leaves the output as it was.
+// Of the lookup's answers the first of family four is taken, and none is read unless a name is to be looked up.
+pub fn open(local_dns: bool, host: &[u8], port: Port, records: &[Record], out: &mut [u8]) -> Opened
+    ensures { λ r. ⌜ Opens (open4 (record { localDns = «local_dns»; host = now (host .entry); port = port; records = now (records .entry) }) (now (out .entry))) r (now (out .exit)) ⌝ }
+{
+    let most = wanted4(local_dns, host);
+    let chosen = choose(records, most, true);
+    open_chosen(local_dns, host, port, chosen, out)
 }

@@ -8,14 +8,13 @@ ghost use Rattle.protocol.specs.Requests.{negotiationReq};
 ghost use Rattle.protocol.specs.declared.Reply.the-variants as Reply;
 ghost use Rattle.messages.specs.Written.{Wrote};
 ghost use Rattle.socks.specs.Session.{requestsOf};
-ghost use Rattle.socks.specs.Steps.{dueAt, followBy, dueFollow, firstStage, dueBegin, Sends};
-ghost use Rattle.socks.specs.Lookup.{recordsOf, plainly};
+ghost use Rattle.socks.specs.Steps.{dueAt, followBy, dueFollow, firstStage, dueBegin, plainly, Sends};
+ghost use Rattle.lookup.specs.Chosen.{recordsOf};
 ghost use Rattle.socks.specs.Accepted.{methodOf, Short5};
 ghost use Rattle.socks.specs.Calls.{keptBy, openBy, Opens, open5};
 ghost use Rattle.protocol.specs.Opening.{check5, opening5};
 ghost use Rattle.protocol.specs.declared.Answer.the-variants as Answer;
 use crate::Kept;
-use crate::Lookup;
 use crate::Opened;
 use crate::Stage;
 use crate::checks::check5;
@@ -23,12 +22,16 @@ use crate::delivery::Due;
 use crate::delivery::authentication_len;
 use crate::delivery::send_authentication;
 use crate::delivery::send_proxy;
+use crate::lookups::wanted5;
 use crate::opening;
+use lookup::Lookup;
+use lookup::choose;
 use messages::Written;
 use messages::v5;
 use protocol::Answer;
 use protocol::AuthMethod;
 use protocol::Port;
+use protocol::Record;
 use protocol::Reply;
 use protocol::SocksConfig;
 use protocol::SocksError;
@@ -191,8 +194,8 @@ fn accept(
     }
 }
 
-// Opens a session over SOCKS5: what it sends stands at the output's start. A refused opening leaves the output as it was.
-pub fn open(
+// An opening with the record chosen.
+fn open_chosen(
     config: SocksConfig,
     host: &[u8],
     port: Port,
@@ -208,4 +211,22 @@ pub fn open(
         Answer::Accepted => accept(config, host, port, user, password, chosen, out),
         Answer::Refused(error) => opening::refuse(error),
     }
+}
+
+// Opens a session over SOCKS5: what it sends stands at the output's start. A refused opening leaves the output as it was.
+// Of the lookup's answers the first record is taken, and none is read unless a name is to be looked up.
+pub fn open(
+    config: SocksConfig,
+    host: &[u8],
+    port: Port,
+    user: &[u8],
+    password: &[u8],
+    records: &[Record],
+    out: &mut [u8],
+) -> Opened
+    ensures { λ r. ⌜ Opens (open5 (record { config = config; host = now (host .entry); port = port; user = now (user .entry); password = now (password .entry); records = now (records .entry) }) (now (out .entry))) r (now (out .exit)) ⌝ }
+{
+    let most = wanted5(config, host);
+    let chosen = choose(records, most, false);
+    open_chosen(config, host, port, user, password, chosen, out)
 }

@@ -7,11 +7,9 @@ use protocol::Port;
 use protocol::Record;
 use protocol::SocksConfig;
 use socks::Delivered;
-use socks::Lookup;
 use socks::Opened;
 use socks::Session;
 use socks::errors;
-use socks::v5;
 ghost use mathlib.Core.Path.{_≡_};
 ghost use Prim.Native.Nat.{_+_, _*_, _%_, _^_, _≤_, _<_};
 ghost use lib.ListN.{length, take};
@@ -99,20 +97,18 @@ fn begin(out: &mut [u8]) -> Opened
         local_dns: false,
         optimistic: false,
     };
-    let chosen = Lookup {
-        found: false,
-        record: Record {
-            family: Family::Four,
-            address: [0u8; 16],
-        },
+    let none = Record {
+        family: Family::Four,
+        address: [0u8; 16],
     };
-    v5::open(
+    lists::open5(
         config,
         b"192.0.2.7",
         Port::Given(443),
         b"",
         b"",
-        chosen,
+        [none; 8],
+        0,
         out,
     )
 }

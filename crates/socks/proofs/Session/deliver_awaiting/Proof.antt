@@ -12,8 +12,8 @@ returns c =
     let a = c .before .before .before .before .args in
     deliver-short (a .self) (a .piece .now) (a .out .now) (c .before .before .before .before .pre) (c .before .if1 .taken) (c .refused .ensures)
 
-deliver-requires : tie.Need-deliver-requires
-deliver-requires c κs = search needs
+take-requires : tie.Need-take-requires
+take-requires c κs = search needs
 
 same-length : tie.Need-same-length
 same-length c = search needs
@@ -22,8 +22,8 @@ returns-2 : tie.Need-returns-2
 returns-2 c =
     let a = c .before .before .before .before .before .before .before .args in
     let l = c .before .before .before .before .if1 .left in
-    deliver-takes (a .self) (a .piece .now) (a .out .now) (c .before .before .before .before .before .before .before .pre) (omega arith) (c .before .before .deliver .ensures)
+    deliver-takes (a .self) (a .piece .now) (a .out .now) (c .before .before .before .before .before .before .before .pre) (omega arith) (c .before .before .take .ensures)
 
 pub deliver-awaiting-spec : {M : Type 1} → statement M
 deliver-awaiting-spec =
-    tie.close (tie.spec refused-requires returns deliver-requires same-length returns-2)
+    tie.close (tie.spec refused-requires returns take-requires same-length returns-2)

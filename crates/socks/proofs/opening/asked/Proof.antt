@@ -5,7 +5,7 @@ use lib.ListN.{length}
 use Rattle.protocol.specs.Host.{strip}
 use Rattle.protocol.specs.AddressReading.{Destination, destinationOf}
 use Rattle.host.specs.Answers.{addressText}
-use Rattle.socks.specs.Lookup.{recordsOf}
+use Rattle.lookup.specs.Chosen.{recordsOf}
 use Rattle.socks.specs.Calls.{addressOf}
 use Rattle.socks.proofs.Keeping.{asked-ipv4, asked-ipv6, read-domain, name-short}
 use borrow.Author.Needs.{needs}

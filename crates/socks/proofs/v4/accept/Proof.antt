@@ -1,6 +1,6 @@
 use lib.ListN.{length}
 use Rattle.protocol.specs.Opening.{V4}
-use Rattle.socks.specs.Lookup.{recordsOf}
+use Rattle.lookup.specs.Chosen.{recordsOf}
 use Rattle.socks.proofs.Accepting.{accepted4}
 use Rattle.socks.proofs.Requesting.{accepts4}
 use borrow.Author.Needs.{needs}

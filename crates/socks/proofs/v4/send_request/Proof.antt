@@ -5,7 +5,7 @@ use lib.ListN.{length}
 use Rattle.protocol.specs.Host.{strip}
 use Rattle.protocol.specs.AddressReading.{destinationOf}
 use Rattle.host.specs.Answers.{addressText}
-use Rattle.socks.specs.Lookup.{recordsOf}
+use Rattle.lookup.specs.Chosen.{recordsOf}
 use Rattle.socks.proofs.Keeping.{read-domain, name-short}
 use Rattle.socks.proofs.Requesting.{asks, asked4-ipv4, never-ipv6}
 use borrow.Author.Needs.{needs}

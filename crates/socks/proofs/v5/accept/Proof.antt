@@ -1,5 +1,5 @@
 use Rattle.protocol.specs.Opening.{V5}
-use Rattle.socks.specs.Lookup.{recordsOf}
+use Rattle.lookup.specs.Chosen.{recordsOf}
 use Rattle.socks.proofs.Accepting.{accepted5, accepts5, sends-method}
 use lib.ListN.{length}
 use borrow.Author.Needs.{needs}

@@ -2,7 +2,7 @@ use mathlib.Core.Path.{sym, subst}
 use mathlib.Core.List.{List}
 use Prim.Native.Nat.{ℕ, _≤_}
 use lib.ListN.{length}
-use Rattle.socks.specs.Lookup.{recordsOf}
+use Rattle.lookup.specs.Chosen.{recordsOf}
 use Rattle.protocol.specs.Opening.{V5}
 use Rattle.socks.proofs.Accepting.{keeps5}
 use borrow.Author.Needs.{needs}

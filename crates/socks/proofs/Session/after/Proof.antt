@@ -1,16 +1,15 @@
 use Rattle.socks.specs.Steps.{rank}
-use Rattle.socks.specs.declared.Stage.the-variants.{Failed}
 use native.Mathlib.Omega.{arith}
-use mathlib.Core.Path.{refl, ap}
+use mathlib.Core.Path.{ap, _∙_}
 use mathlib.Core.List.{_++_}
 use lib.ListN.{length, drop, length-drop, length-append}
 use Rattle.socks.specs.declared.Stage.{Stage}
 use Rattle.socks.specs.Session.{viewAt}
-use Rattle.socks.proofs.Deliveries.{packed-waits, packed-settled}
+use Rattle.socks.proofs.Deliveries.{packed-waits, packed-settled, packed-failed}
 use Rattle.talk.specs.Talk.{heldBy}
 use borrow.Author.Needs.{needs}
-use Rattle.socks.proofs.delivery.after.Statement.{statement}
-use Rattle.socks.proofs.delivery.after.Tie as tie
+use Rattle.socks.proofs.Session.after.Statement.{statement}
+use Rattle.socks.proofs.Session.after.Tie as tie
 
 enum-known-stage : tie.Need-enum-known-stage
 enum-known-stage c = search needs
@@ -39,18 +38,23 @@ enum-known-stage-2 c = search needs
 returns : tie.Need-returns
 returns c =
     let a = c .before .before .before .before .before .before .before .before .before .args in
-    packed-waits (a .session) (a .held .now) (a .piece .now) (a .turn .place) (c .before .before .before .stage .given .1) (c .before .keep-rest .ensures)
+    packed-waits (a .self) (a .held .now) (a .piece .now) (a .turn .place) (c .before .before .before .stage .given .1) (c .before .keep-rest .ensures)
+
+settled-requires : tie.Need-settled-requires
+settled-requires c κs = search needs
+
+settled-requires-2 : tie.Need-settled-requires-2
+settled-requires-2 c κs = search needs
 
 returns-2 : tie.Need-returns-2
 returns-2 c =
-    let a = c .before .before .before .before .before .before .args in
-    packed-settled (a .session) (a .turn .stage) (drop (a .turn .place) (a .held .now ++ a .piece .now)) (ap rank (c .enum-told .given .1))
+    let a = c .before .before .before .before .before .before .before .args in
+    c .settled .ensures ∙ packed-settled (a .self) (a .turn .stage) (drop (a .turn .place) (a .held .now ++ a .piece .now)) (ap rank (c .before .enum-told .given .1))
 
 returns-3 : tie.Need-returns-3
 returns-3 c =
-    let a = c .before .before .before .before .before .before .before .args in
-    let e = c .before .stage2 .given in
-    rw (e .1) (packed-settled (a .session) (Failed (e .0 .0)) (drop (a .turn .place) (a .held .now ++ a .piece .now)) refl)
+    let a = c .before .before .before .before .before .before .before .before .args in
+    c .settled2 .ensures ∙ packed-failed (a .self) (drop (a .turn .place) (a .held .now ++ a .piece .now)) (c .before .before .stage2 .given .1)
 
 pub after-spec : {M : Type 1} → statement M
 after-spec =
@@ -61,7 +65,9 @@ after-spec =
     add-t14
     sub-t15
     enum-told
+    settled-requires
     enum-known-stage-2
+    settled-requires-2
     returns
     returns-2
     returns-3)

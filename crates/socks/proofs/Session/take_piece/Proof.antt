@@ -2,8 +2,8 @@ use native.Mathlib.Omega.{arith}
 use lib.ListN.{length-append}
 use Rattle.messages.proofs.Laws.{wrote-length}
 use Rattle.socks.proofs.Deliveries.{moved}
-use Rattle.socks.proofs.delivery.take_piece.Statement.{statement}
-use Rattle.socks.proofs.delivery.take_piece.Tie as tie
+use Rattle.socks.proofs.Session.take_piece.Statement.{statement}
+use Rattle.socks.proofs.Session.take_piece.Tie as tie
 
 work-requires : tie.Need-work-requires
 work-requires c κs =
@@ -32,7 +32,7 @@ returns c =
     let a = c .before .before .before .before .before .before .before .before .before .before .args in
     let p = c .before .before .before .before .before .before .before .before .before .before .pre in
     let w = c .before .before .before .before .work in
-    moved (a .session) (a .reply) (a .held .now) (a .piece .now) (a .out .now) (w .result .stage) (w .result .place) (p .0) (p .1) (w .ensures) (c .before .used .ensures) (c .after .ensures)
+    moved (a .self) (a .reply) (a .held .now) (a .piece .now) (a .out .now) (w .result .stage) (w .result .place) (p .0) (p .1) (w .ensures) (c .before .used .ensures) (c .after .ensures)
 
 pub take-piece-spec : {M : Type 1} → statement M
 take-piece-spec =

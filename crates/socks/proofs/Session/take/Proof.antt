@@ -5,16 +5,16 @@ use Prim.Native.Nat.{ℕ}
 use lib.ListN.{length, take, length-take}
 use Rattle.socks.proofs.Reading.{take-least}
 use Rattle.socks.proofs.Deliveries.{takes-none, takes-more}
-use Rattle.socks.proofs.delivery.deliver.Statement.{statement}
-use Rattle.socks.proofs.delivery.deliver.Tie as tie
+use Rattle.socks.proofs.Session.take.Statement.{statement}
+use Rattle.socks.proofs.Session.take.Tie as tie
 
-hold-long : (c : tie.Start) → length (c .args .session .hold) ≡ 261
+hold-long : (c : tie.Start) → length (c .args .self .hold) ≡ 261
 hold-long c = search needs
 
 returns : tie.Need-returns
 returns c =
     let a = c .before .before .before .args in
-    takes-none (a .session) (a .piece .now) (a .out .now) (c .if1 .taken)
+    takes-none (a .self) (a .piece .now) (a .out .now) (c .if1 .taken)
 
 least-requires : tie.Need-least-requires
 least-requires c κs = search needs
@@ -29,12 +29,12 @@ slice-aggregate-take-piece c =
     let start = c .before .before .before .before .before .before in
     let e = c .before .least .ensures in
     let n = c .before .least .result in
-    omega (arith, e, hold-long start, length-take n (start .args .session .hold))
+    omega (arith, e, hold-long start, length-take n (start .args .self .hold))
 
 take-piece-requires : tie.Need-take-piece-requires
 take-piece-requires c κs =
     let start = c .before .before .before .before .before .before .before in
-    let a = start .args .session in
+    let a = start .args .self in
     let p = start .pre in
     let e = c .before .before .least .ensures in
     let n = c .before .before .least .result in
@@ -47,10 +47,10 @@ returns-2 : tie.Need-returns-2
 returns-2 c =
     let a = c .before .before .before .before .before .before .before .before .before .before .args in
     let e = c .before .before .before .before .before .before .before .if1 .left in
-    takes-more (a .session) (a .piece .now) (a .out .now) (λ z. omega arith) (c .before .before .take-piece .ensures)
+    takes-more (a .self) (a .piece .now) (a .out .now) (λ z. omega arith) (c .before .before .take-piece .ensures)
 
-pub deliver-spec : {M : Type 1} → statement M
-deliver-spec =
+pub take-spec : {M : Type 1} → statement M
+take-spec =
     tie.close
     (tie.spec
     returns
