@@ -1,0 +1,79 @@
+use borrow.Author.Needs.{needs}
+use Rattle.replay.specs.Bounds.{Unread}
+use lib.ListN.{length}
+use mathlib.Core.Path.{_≡_}
+use Rattle.replay.proofs.skip_deliveries.Statement.{statement}
+use Rattle.replay.proofs.skip_deliveries.Tie as tie
+
+abbrev Inv-loop : tie.InvT-loop
+Inv-loop count buffer₀ input₀ left₀ buffer input left = (length buffer ≡ length buffer₀) × Unread input (length buffer)
+
+abbrev μ-loop : tie.MeasureT-loop
+μ-loop count buffer₀ input₀ left₀ buffer input left = left
+
+loop-holds : tie.Need-loop-holds Inv-loop μ-loop
+loop-holds c = search needs
+
+want-requires : tie.Need-want-requires Inv-loop μ-loop
+want-requires c κs = search needs
+
+sub-delivery-size : tie.Need-sub-delivery-size Inv-loop μ-loop
+sub-delivery-size c = search needs
+
+part-delivery-size-start : tie.Need-part-delivery-size-start Inv-loop μ-loop
+part-delivery-size-start c = search needs
+
+part-delivery-size-end : tie.Need-part-delivery-size-end Inv-loop μ-loop
+part-delivery-size-end c = search needs
+
+delivery-size-requires : tie.Need-delivery-size-requires Inv-loop μ-loop
+delivery-size-requires c κs = search needs
+
+sub-if1 : tie.Need-sub-if1 Inv-loop μ-loop
+sub-if1 c = search needs
+
+same-length : tie.Need-same-length Inv-loop μ-loop
+same-length c = search needs
+
+returns : tie.Need-returns Inv-loop μ-loop
+returns c = search needs
+
+past-requires : tie.Need-past-requires Inv-loop μ-loop
+past-requires c κs = search needs
+
+sub-left : tie.Need-sub-left Inv-loop μ-loop
+sub-left c = search needs
+
+loop-less : tie.Need-loop-less Inv-loop μ-loop
+loop-less c = search needs
+
+loop-again : tie.Need-loop-again Inv-loop μ-loop
+loop-again c = search needs
+
+same-length-2 : tie.Need-same-length-2 Inv-loop μ-loop
+same-length-2 c = search needs
+
+returns-2 : tie.Need-returns-2 Inv-loop μ-loop
+returns-2 c = search needs
+
+pub skip-deliveries-spec : {M : Type 1} → statement M
+skip-deliveries-spec =
+    tie.close
+    (tie.spec
+    Inv-loop
+    μ-loop
+    loop-holds
+    want-requires
+    sub-delivery-size
+    part-delivery-size-start
+    part-delivery-size-end
+    delivery-size-requires
+    sub-if1
+    same-length
+    returns
+    past-requires
+    sub-left
+    loop-less
+    loop-again
+    same-length-2
+    returns-2)

@@ -1,0 +1,4 @@
+pub mod Cases
+pub mod Text
+pub mod Bounds
+pub mod Last

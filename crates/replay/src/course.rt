@@ -1,0 +1,205 @@
+// A session from its opening over its deliveries to its end.
+ghost use mathlib.Core.Path.{_≡_};
+ghost use Prim.Native.Nat.{_+_, _-_, _≤_};
+ghost use mathlib.Core.Bool.{cond};
+ghost use mathlib.Core.List.{[]};
+ghost use lib.Dec.{ltb};
+ghost use lib.ListN.{length, take};
+ghost use Rattle.replay.specs.Bounds.{Within, Keeps};
+ghost use Rattle.replay.specs.Cases.{Ordered, restOf, deliverySize};
+ghost use Rattle.replay.specs.Last.{lastOf};
+ghost use Rattle.replay.specs.Text.{Adds};
+use crate::heads;
+use crate::heads::Head;
+use crate::lines;
+use crate::lines::Line;
+use crate::text;
+use crate::text::Results;
+use socks::Opened;
+use socks::Session;
+
+// answer: the last call's. used: by all deliveries. sent: how many bytes were kept of what all calls sent.
+pub struct Course {
+    pub session: Session,
+    pub answer: u8,
+    pub used: u64,
+    pub sent: usize,
+    pub line: Line,
+}
+
+fn output() -> [u8; 2048]
+    ensures { λ r. ⌜ 2048 ≡ length r ⌝ }
+{
+    [0u8; 2048]
+}
+
+fn begin(s: &[u8], head: Head, out: &mut [u8]) -> Opened
+    requires { ⌜ (Ordered head) × ((head .count ≤ 8) × (head .size ≤ length (now s))) ⌝ }
+    ensures { λ r. ⌜ r .sent ≤ length (now (out .exit)) ⌝ }
+{
+    let flags = heads::byte_at(s, 1);
+    let config = heads::config_of(flags);
+    let port = heads::port_of(flags, heads::number_at(s, 2));
+    let list = heads::records_at(s, head.password + 1, head.count);
+    let host = 8;
+    let host_end = head.host;
+    if heads::byte_at(s, 0) == 4 {
+        return lists::open4(
+            config.local_dns,
+            &s[host..host_end],
+            port,
+            list,
+            head.count,
+            out,
+        );
+    }
+    let user = host_end + 2;
+    let user_end = head.user;
+    let password = user_end + 2;
+    let password_end = head.password;
+    lists::open5(
+        config,
+        &s[host..host_end],
+        port,
+        &s[user..user_end],
+        &s[password..password_end],
+        list,
+        head.count,
+        out,
+    )
+}
+
+// The first n bytes of an output behind those that are kept of what was sent. All calls of a session together send less than the room there is.
+fn keep_sent(out: &[u8], n: usize, sent: &mut [u8], at: usize) -> usize
+    requires { ⌜ (n ≤ length (now out)) × (at ≤ length (now sent)) ⌝ }
+    ensures { λ r. ⌜ r ≤ length (now (sent .entry)) ⌝ }
+    ensures { λ r. ⌜ Adds (now (sent .entry)) at (cond (ltb (length (now (sent .entry)) - at) n) [] (take n (now (out .entry)))) r (now (sent .exit)) ⌝ }
+{
+    if sent.len() - at < n {
+        return at;
+    }
+    text::put_bytes(&out[..n], sent, at)
+}
+
+// The opening of a case with all of an output.
+fn open(s: &[u8], head: Head, line: Line, out: &mut [u8], sent: &mut [u8]) -> Course
+    requires { ⌜ (Ordered head) × ((head .count ≤ 8) × (head .size ≤ length (now s))) ⌝ }
+    ensures { λ r. ⌜ (r .line ≡ line) × (r .sent ≤ length (now (sent .entry))) ⌝ }
+{
+    let opened = begin(s, head, out);
+    let answer = opened.answer;
+    let session = opened.session;
+    Course {
+        session,
+        answer: text::answer_number(answer),
+        used: 0,
+        sent: keep_sent(out, opened.sent, sent, 0),
+        line,
+    }
+}
+
+// The opening of a case, whose output is lent as far as the case says.
+pub fn start(s: &[u8], head: Head, line: Line, sent: &mut [u8]) -> Course
+    requires { ⌜ (Ordered head) × ((head .count ≤ 8) × (head .size ≤ length (now s))) ⌝ }
+    ensures { λ r. ⌜ (r .line ≡ line) × (r .sent ≤ length (now (sent .entry))) ⌝ }
+{
+    let mut out = output();
+    let n = heads::lent(heads::number_at(s, 4));
+    open(s, head, line, &mut out[..n], sent)
+}
+
+// What a delivery leaves of its piece. If it is lent less output than a delivery asks, that is nothing.
+fn rest_of(piece: &[u8], lent: usize, used: usize) -> &[u8]
+    ensures { λ r. ⌜ now r ≡ restOf lent (now (piece .entry)) used ⌝ }
+{
+    if lent < 262 {
+        return &piece[..0];
+    }
+    socks::rest(piece, used)
+}
+
+// A piece is delivered with all of an output.
+fn deliver(course: Course, piece: &[u8], out: &mut [u8], sent: &mut [u8], text: &mut [u8]) -> Course
+    requires { ⌜ (Keeps course (length (now sent)) (length (now text))) × ((length (now piece) ≤ 65535) × (131072 ≤ length (now text))) ⌝ }
+    ensures { λ r. ⌜ Keeps r (length (now (sent .entry))) (length (now (text .entry))) ⌝ }
+{
+    let before = course.session;
+    let line = course.line;
+    let delivered = before.deliver(piece, out);
+    let answer = delivered.answer;
+    let session = delivered.session;
+    let used = delivered.used;
+    Course {
+        session,
+        answer: text::answer_number(answer),
+        used: std::num::wrapping_add_u64(course.used, used as u64),
+        sent: keep_sent(out, delivered.sent, sent, course.sent),
+        line: lines::put_rest(line, rest_of(piece, out.len(), used), text),
+    }
+}
+
+// The delivery that a case has at a place.
+pub fn take_delivery(course: Course, s: &[u8], sent: &mut [u8], text: &mut [u8]) -> Course
+    requires { ⌜ (Keeps course (length (now sent)) (length (now text))) × ((deliverySize (now s) ≤ length (now s)) × (131072 ≤ length (now text))) ⌝ }
+    ensures { λ r. ⌜ Keeps r (length (now (sent .entry))) (length (now (text .entry))) ⌝ }
+{
+    let mut out = output();
+    let n = heads::lent(heads::number_at(s, 0));
+    let from = 4;
+    let to = heads::delivery_size(s);
+    deliver(course, &s[from..to], &mut out[..n], sent, text)
+}
+
+// The last session and, if the stream ends, what that call answers.
+struct Last {
+    session: Session,
+    ended: bool,
+    answer: u8,
+}
+
+fn last_of(session: Session, ends: bool) -> Last
+    ensures { λ r. ⌜ r ≡ lastOf session ends ⌝ }
+{
+    if !ends {
+        return Last {
+            session,
+            ended: false,
+            answer: 0,
+        };
+    }
+    let ended = session.end();
+    let answer = ended.answer;
+    let last = ended.session;
+    Last {
+        session: last,
+        ended: true,
+        answer: text::answer_number(answer),
+    }
+}
+
+// A whole case's line.
+pub fn finish(
+    course: Course,
+    opened: u8,
+    ends: bool,
+    answers: &[u8],
+    sent: &[u8],
+    text: &mut [u8],
+) -> usize
+    requires { ⌜ (Within (course .line) (length (now text))) × ((length (now answers) ≤ 65535) × ((length (now sent) ≤ 8192) × (300000 ≤ length (now text)))) ⌝ }
+    ensures { λ r. ⌜ r ≤ length (now (text .entry)) ⌝ }
+{
+    let session = course.session;
+    let line = course.line;
+    let last = last_of(session, ends);
+    let end = last.session;
+    let outcome = end.outcome();
+    let results = Results {
+        outcome,
+        used: course.used,
+        opened,
+        ended: last.ended,
+        answer: last.answer,
+    };
+    lines::put_line(line, results, answers, sent, text)
+}
