@@ -1,6 +1,7 @@
 // The host: its brackets, its bytes, and what it stands for as address text.
 
 ghost use mathlib.Core.Path.{_≡_};
+ghost use mathlib.Core.Bool.{_&&_};
 ghost use Rattle.protocol.specs.Host.{strip, allowed, allAllowed};
 ghost use Rattle.protocol.specs.AddressReading.{destinationOf};
 ghost use Rattle.host.specs.Answers.{addressText};
@@ -37,18 +38,23 @@ fn is_allowed(byte: u8) -> bool
     0x21 <= byte && byte <= 0x7E
 }
 
-// Whether a host may have each of these bytes.
+fn both(a: bool, b: bool) -> bool
+    ensures { λ r. ⌜ r ≡ a && b ⌝ }
+{
+    a && b
+}
+
+// Whether a host may have each of these bytes. All are tested: without an early end the compiler tests many at once.
 pub fn all_allowed(host: &[u8]) -> bool
     ensures { λ r. ⌜ r ≡ allAllowed (now (host .entry)) ⌝ }
 {
+    let mut all = true;
     let mut i: usize = 0;
     while i < host.len() {
-        if !is_allowed(host[i]) {
-            return false;
-        }
+        all = both(all, is_allowed(host[i]));
         i += 1;
     }
-    true
+    all
 }
 
 // What a host's text stands for.

@@ -1,29 +1,35 @@
-use mathlib.Core.Path.{_≡_, refl}
-use mathlib.Core.Bool.{false, cond}
-use Prim.Native.Nat.{_+_, _-_}
+use mathlib.Core.Path.{_≡_, refl, _∙_}
+use mathlib.Core.Bool.{Bool, true, false, cond, _&&_}
+use Prim.Native.Nat.{ℕ, suc, _+_, _-_, _<_}
 use native.Mathlib.Numerals.{add-one}
-use lib.ListN.{length, drop, drop-of-length-le}
+use mathlib.Core.List.{List}
+use lib.ListN.{length, drop, getD, drop-of-length-le}
 use lib.Seq.{drop-cons}
 use borrow.Author.Needs.{needs}
-use borrow.Author.Tests.{not-true, not-false}
-use Rattle.protocol.specs.Host.{allAllowed}
+use Rattle.protocol.specs.Host.{allowed, allAllowed}
 use Rattle.host.proofs.all_allowed.Statement.{statement}
 use Rattle.host.proofs.all_allowed.Tie as tie
 
 abbrev Inv-loop : tie.InvT-loop
-Inv-loop host i₀ i = allAllowed (drop i host) ≡ allAllowed host
+Inv-loop host all₀ i₀ all i = (all && allAllowed (drop i host)) ≡ allAllowed host
 
 abbrev μ-loop : tie.MeasureT-loop
-μ-loop host i₀ i = length host - i
+μ-loop host all₀ i₀ all i = length host - i
 
 -- what is left to test from a byte on, by its own test
-turn : (c : tie.After-is-allowed Inv-loop μ-loop) → cond (c .is-allowed .result) (allAllowed (drop (c .before .before .before .loop .i + 1) (c .before .before .before .before .before .args .host .now))) false
-    ≡ allAllowed (c .before .before .before .before .before .args .host .now)
+and-then : (a b x : Bool) → ((a && b) && x) ≡ (a && cond b x false)
+and-then true true x = refl
+and-then true false x = refl
+and-then false b x = refl
+
+and-true : (a : Bool) → a ≡ (a && true)
+and-true true = refl
+and-true false = refl
+
+turn : (host : List ℕ) (all : Bool) (i : ℕ) → i < length host
+    → ((all && allowed (getD host i 0)) && allAllowed (drop (i + 1) host)) ≡ (all && allAllowed (drop i host))
 unfolding allAllowed
-turn c =
-    let l = c .before .before .before .loop in
-    rw (c .is-allowed .ensures, add-one)
-    (rw (drop-cons (c .before .before .before .before .before .args .host .now) (l .i) 0 (c .before .before .loop-test .taken)) at (l .inv))
+turn host all i h = rw (drop-cons host i 0 h, add-one i) (and-then all (allowed (getD host i 0)) (allAllowed (drop (suc i) host)))
 
 loop-holds : tie.Need-loop-holds Inv-loop μ-loop
 loop-holds c = refl
@@ -34,8 +40,8 @@ shared-slice-read-is-allowed c = search needs
 is-allowed-requires : tie.Need-is-allowed-requires Inv-loop μ-loop
 is-allowed-requires c κs = search needs
 
-returns : tie.Need-returns Inv-loop μ-loop
-returns c = rw (not-true (c .before .is-allowed .result) (c .if1 .taken)) at (turn (c .before))
+both-requires : tie.Need-both-requires Inv-loop μ-loop
+both-requires c κs = search needs
 
 add-i : tie.Need-add-i Inv-loop μ-loop
 add-i c = search needs
@@ -44,11 +50,13 @@ loop-less : tie.Need-loop-less Inv-loop μ-loop
 loop-less c = search needs
 
 loop-again : tie.Need-loop-again Inv-loop μ-loop
-loop-again c = rw (not-false (c .before .is-allowed .result) (c .if1 .left)) at (turn (c .before))
+loop-again c =
+    let l = c .before .before .before .before .loop in
+    rw (c .both .ensures, c .before .is-allowed .ensures) (turn (c .before .before .before .before .before .before .args .host .now) (l .all) (l .i) (c .before .before .before .loop-test .taken) ∙ l .inv)
 
-returns-2 : tie.Need-returns-2 Inv-loop μ-loop
+returns : tie.Need-returns Inv-loop μ-loop
 unfolding allAllowed
-returns-2 c = rw (drop-of-length-le _ (c .loop-test .left)) at (c .before .loop .inv)
+returns c = and-true (c .before .loop .all) ∙ (rw (drop-of-length-le _ (c .loop-test .left)) at (c .before .loop .inv))
 
 pub all-allowed-spec : {M : Type 1} → statement M
 all-allowed-spec =
@@ -59,8 +67,8 @@ all-allowed-spec =
     loop-holds
     shared-slice-read-is-allowed
     is-allowed-requires
-    returns
+    both-requires
     add-i
     loop-less
     loop-again
-    returns-2)
+    returns)

@@ -1,0 +1,127 @@
+//! A case of `replay`: what an opening and its deliveries are given, and its bytes.
+
+pub const CREDENTIALS: u8 = 1;
+pub const LOCAL_LOOKUP: u8 = 2;
+pub const OPTIMISTIC: u8 = 4;
+pub const PORT: u8 = 8;
+pub const END: u8 = 16;
+
+// Output lent above this counts as this.
+const MOST_LENT: u16 = 2048;
+
+// Family 4 or 6, and the address, of which family 4 uses the first four bytes.
+pub type Record = (u8, [u8; 16]);
+
+#[derive(Clone, PartialEq)]
+pub struct Delivery {
+    pub lent: u16,
+    pub piece: Vec<u8>,
+}
+
+#[derive(Clone, PartialEq)]
+pub struct Case {
+    pub version: u8,
+    pub flags: u8,
+    pub port: u16,
+    pub lent: u16,
+    pub host: Vec<u8>,
+    pub user: Vec<u8>,
+    pub password: Vec<u8>,
+    pub records: Vec<Record>,
+    pub deliveries: Vec<Delivery>,
+}
+
+pub fn lent(n: u16) -> usize {
+    n.min(MOST_LENT).into()
+}
+
+fn text(out: &mut Vec<u8>, bytes: &[u8]) {
+    let n = u16::try_from(bytes.len()).expect("a text of at most 65,535 bytes");
+    out.extend(n.to_be_bytes());
+    out.extend(bytes);
+}
+
+impl Case {
+    pub fn has(&self, flag: u8) -> bool {
+        self.flags & flag != 0
+    }
+
+    pub fn write(&self, out: &mut Vec<u8>) {
+        out.extend([self.version, self.flags]);
+        out.extend(self.port.to_be_bytes());
+        out.extend(self.lent.to_be_bytes());
+        text(out, &self.host);
+        text(out, &self.user);
+        text(out, &self.password);
+        out.push(self.records.len() as u8);
+        for (family, address) in &self.records {
+            out.push(*family);
+            out.extend(address);
+        }
+        out.extend((self.deliveries.len() as u16).to_be_bytes());
+        for d in &self.deliveries {
+            out.extend(d.lent.to_be_bytes());
+            text(out, &d.piece);
+        }
+    }
+
+    pub fn bytes(&self) -> Vec<u8> {
+        let mut out = Vec::new();
+        self.write(&mut out);
+        out
+    }
+
+    // The case at the start of these bytes, if it is whole and lawful.
+    pub fn read(bytes: &[u8]) -> Option<Case> {
+        let mut left = bytes;
+        let version = byte(&mut left).filter(|v| [4, 5].contains(v))?;
+        let flags = byte(&mut left)?;
+        let port = number(&mut left)?;
+        let lent = number(&mut left)?;
+        let (host, user, password) = (read_text(&mut left)?, read_text(&mut left)?, read_text(&mut left)?);
+        let records = (0..byte(&mut left)?).map(|_| read_record(&mut left)).collect::<Option<_>>()?;
+        let deliveries = (0..number(&mut left)?).map(|_| read_delivery(&mut left)).collect::<Option<_>>()?;
+        Some(Case { version, flags, port, lent, host, user, password, records, deliveries })
+    }
+}
+
+fn take<'a>(left: &mut &'a [u8], n: usize) -> Option<&'a [u8]> {
+    let (taken, rest) = left.split_at_checked(n)?;
+    *left = rest;
+    Some(taken)
+}
+
+fn byte(left: &mut &[u8]) -> Option<u8> {
+    Some(take(left, 1)?[0])
+}
+
+fn number(left: &mut &[u8]) -> Option<u16> {
+    Some(u16::from_be_bytes(take(left, 2)?.try_into().ok()?))
+}
+
+fn read_text(left: &mut &[u8]) -> Option<Vec<u8>> {
+    let n = number(left)?;
+    Some(take(left, n.into())?.to_vec())
+}
+
+fn read_record(left: &mut &[u8]) -> Option<Record> {
+    let family = byte(left).filter(|f| [4, 6].contains(f))?;
+    Some((family, take(left, 16)?.try_into().ok()?))
+}
+
+fn read_delivery(left: &mut &[u8]) -> Option<Delivery> {
+    Some(Delivery { lent: number(left)?, piece: read_text(left)? })
+}
+
+// Two lower-case digits a byte, and `-` for none.
+pub fn hex(bytes: &[u8]) -> String {
+    use std::fmt::Write;
+    if bytes.is_empty() {
+        return "-".into();
+    }
+    let mut s = String::with_capacity(2 * bytes.len());
+    for b in bytes {
+        write!(s, "{b:02x}").unwrap();
+    }
+    s
+}

@@ -1,0 +1,241 @@
+//! Random cases over document 01's whole domain, its boundaries, and somewhat beyond.
+use crate::case::*;
+use crate::draw::{EDGES, Random};
+use crate::model;
+
+const LENT: [u16; 8] = [262, 263, 1024, 1025, 2047, 2048, 2049, 65535];
+const SHORT: [u16; 6] = [0, 1, 100, 260, 261, 261];
+const NAMES: [usize; 18] = [0, 1, 2, 3, 11, 50, 100, 200, 251, 252, 253, 254, 255, 256, 257, 257, 300, 1000];
+const LONG_NAMES: [usize; 6] = [1013, 1014, 1015, 1016, 1017, 5000];
+const CREDENTIALS_OF: [usize; 20] =
+    [0, 0, 1, 2, 3, 8, 20, 120, 121, 122, 123, 124, 125, 130, 246, 247, 253, 254, 255, 256];
+
+pub fn case(seed: u64, number: u64) -> Case {
+    let mut r = Random::new(seed, number);
+    let mut case = opening(&mut r);
+    if case.has(CREDENTIALS) && r.once_in(3) {
+        near_the_limit(&mut r, &mut case);
+    }
+    let stream = stream(&mut r, &case);
+    case.deliveries = deliveries(&mut r, stream);
+    case
+}
+
+fn opening(r: &mut Random) -> Case {
+    let version = if r.once_in(3) { 4 } else { 5 };
+    let enough = if version == 4 { &LENT[2..] } else { &LENT };
+    let n = r.one_of(&[0, 1, 1, 2, 3, 5, 7, 8]);
+    Case {
+        version,
+        flags: flags(r),
+        port: r.one_of(&[0, 1, 80, 255, 256, 443, 443, 65535]),
+        lent: if r.once_in(30) { r.one_of(&[0, 1, 261, 262, 1022, 1023]) } else { r.one_of(enough) },
+        host: host(r, version),
+        user: credential(r),
+        password: credential(r),
+        records: (0..n).map(|_| record(r)).collect(),
+        deliveries: vec![],
+    }
+}
+
+fn flags(r: &mut Random) -> u8 {
+    let mut flags = if r.once_in(30) { 0 } else { PORT };
+    for flag in [CREDENTIALS, LOCAL_LOOKUP, OPTIMISTIC, END] {
+        if r.once_in(if flag == LOCAL_LOOKUP { 4 } else { 2 }) {
+            flags |= flag;
+        }
+    }
+    flags
+}
+
+fn record(r: &mut Random) -> Record {
+    let address: [u8; 16] = if r.once_in(8) { [0; 16] } else { r.bytes(16).try_into().unwrap() };
+    (r.one_of(&[4, 6, 6]), address)
+}
+
+fn name(r: &mut Random, version: u8) -> Vec<u8> {
+    let n = match r.below(400) {
+        0 => r.below(65534),
+        1 => 65533,
+        2..=99 if version == 4 => r.one_of(&LONG_NAMES),
+        2..=199 => r.one_of(&NAMES),
+        _ => 1 + r.below(40),
+    };
+    let any: Vec<u8> = (0x21..=0x7E).collect();
+    let alphabet: &[u8] = if r.once_in(4) { &any } else { b"abcxyz0129-._" };
+    r.text(n, alphabet)
+}
+
+fn host(r: &mut Random, version: u8) -> Vec<u8> {
+    let mut host = match r.below(16) {
+        0..=2 => r.ipv4().into_bytes(),
+        3..=5 => r.ipv6().into_bytes(),
+        6 | 7 => {
+            let text = if r.once_in(2) { r.ipv4() } else { r.ipv6() };
+            r.damaged(text.into_bytes(), b"0123456789abcdefABCDEFg:::...[]%~!")
+        }
+        8 => {
+            let n = r.below(5);
+            r.text(n, b"[]a")
+        }
+        _ => name(r, version),
+    };
+    if !host.is_empty() && r.once_in(16) {
+        let at = r.below(host.len());
+        host[at] = r.one_of(&[0x00, 0x0A, 0x20, 0x21, 0x7E, 0x7F, 0x80, 0xC3, 0xFF]);
+    }
+    match r.below(16) {
+        0..=2 => [b"[", &host[..], b"]"].concat(),
+        3 => [b"[", &host[..]].concat(),
+        4 => [&host[..], b"]"].concat(),
+        _ => host,
+    }
+}
+
+fn credential(r: &mut Random) -> Vec<u8> {
+    let n = match r.below(1000) {
+        0 => 65535,
+        1..=5 => r.below(1000),
+        6..=500 => r.one_of(&CREDENTIALS_OF),
+        _ => r.below(40),
+    };
+    match r.below(40) {
+        0 => r.bytes(n),
+        1..=10 => r.utf8(n),
+        _ => r.text(n, b"user:PASS 09\0"),
+    }
+}
+
+// All requests together at the send limit, or a little below or above.
+fn near_the_limit(r: &mut Random, case: &mut Case) {
+    let others = 3 + 3 + model::connect(case).len();
+    let wanted = r.one_of(&[260usize, 261, 262, 262, 263, 263, 264, 265]);
+    let Some(most) = wanted.checked_sub(others) else {
+        return;
+    };
+    let user = r.below(most + 1).min(255);
+    case.user = r.utf8(user);
+    case.password = r.utf8((most - user).min(255));
+}
+
+// ---- what the proxy sends
+
+fn stream(r: &mut Random, case: &Case) -> Vec<u8> {
+    let mut stream = match case.version {
+        4 => reply4(r),
+        _ => replies5(r, case),
+    };
+    if r.once_in(6) {
+        stream = r.damaged(stream, &[0, 1, 2, 3, 4, 5, 8, 9, 0x5A, 0x5B, 0x80, 0xFF]);
+    }
+    match r.below(16) {
+        0 => stream = r.some_bytes(400),
+        1 => stream.extend(stream.clone()),
+        2..=5 => {
+            stream.truncate(r.below(stream.len() + 1));
+            return stream;
+        }
+        _ => {}
+    }
+    let behind = match r.below(1000) {
+        0 => 65535,
+        1..=20 => r.below(3000),
+        21..=40 => r.one_of(&[255, 261, 262, 512, 513, 514, 1026]),
+        41..=500 => r.below(12),
+        _ => 0,
+    };
+    stream.extend(r.bytes(behind));
+    stream
+}
+
+fn reply4(r: &mut Random) -> Vec<u8> {
+    let first = if r.once_in(20) { r.one_of(&[1, 4, 5, 255]) } else { 0 };
+    let code = if r.once_in(2) { 90 } else { r.one_of(&[0, 89, 91, 92, 93, 94, 255]) };
+    [&[first, code], &r.bytes(6)[..]].concat()
+}
+
+fn replies5(r: &mut Random, case: &Case) -> Vec<u8> {
+    let credentials = case.has(CREDENTIALS);
+    let right = if credentials { 2 } else { 0 };
+    let method = if r.once_in(12) { r.one_of(&[0, 1, 2, 3, 0x7F, 0x80, 0xFE, 0xFF]) } else { right };
+    let mut stream = vec![if r.once_in(60) { r.byte() } else { 5 }, method];
+    if credentials {
+        let verdict = if r.once_in(10) { r.one_of(&[1, 2, 7, 0x80, 0xFF]) } else { 0 };
+        stream.extend([if r.once_in(40) { r.byte() } else { 1 }, verdict]);
+    }
+    stream.extend(connect_reply(r));
+    stream
+}
+
+fn connect_reply(r: &mut Random) -> Vec<u8> {
+    let status = if r.once_in(2) { 0 } else { r.one_of(&[1, 1, 2, 2, 3, 3, 4, 4, 5, 5, 6, 6, 7, 7, 8, 8, 9, 255]) };
+    let reserved = if r.once_in(30) { r.one_of(&[1, 255]) } else { 0 };
+    let kind = if r.once_in(20) { r.one_of(&[0, 2, 5, 6, 255]) } else { r.one_of(&[1, 3, 3, 3, 4]) };
+    let start = [if r.once_in(60) { r.byte() } else { 5 }, status, reserved, kind];
+    let address = match kind {
+        1 => r.bytes(4),
+        4 => r.bytes(16),
+        _ => bound_name(r),
+    };
+    [&start, &address[..], &r.bytes(2)].concat()
+}
+
+fn bound_name(r: &mut Random) -> Vec<u8> {
+    let n = if r.once_in(3) { r.one_of(&[0, 1, 2, 3, 4, 253, 254, 255]) } else { 1 + r.below(20) };
+    let text = match r.below(8) {
+        0..=2 => r.text(n, b"abc.019-"),
+        3..=5 => r.utf8(n),
+        6 => r.text(n, &EDGES),
+        _ => {
+            let text = r.utf8(n);
+            r.damaged(text, &EDGES)
+        }
+    };
+    let text = &text[..text.len().min(255)];
+    [&[text.len() as u8], text].concat()
+}
+
+// ---- how it arrives
+
+fn cuts(r: &mut Random, mut stream: Vec<u8>) -> Vec<Vec<u8>> {
+    let way = r.below(8);
+    let most = 1 + r.below(40);
+    let mut pieces = vec![];
+    while !stream.is_empty() {
+        let n = match way {
+            0..=2 if pieces.len() < 600 => 1,
+            3 | 4 if pieces.len() < 600 => 1 + r.below(most),
+            5 => 1 + r.below(stream.len()),
+            6 => r.one_of(&[1, 2, 3, 5, 7, 10, 255, 261, 262, 263, 512, 513, 514]),
+            _ => stream.len(),
+        };
+        let later = stream.split_off(n.min(stream.len()).min(65535));
+        pieces.push(std::mem::replace(&mut stream, later));
+    }
+    pieces
+}
+
+fn deliveries(r: &mut Random, stream: Vec<u8>) -> Vec<Delivery> {
+    let noisy = r.once_in(4);
+    let mut all = vec![];
+    for piece in cuts(r, stream) {
+        if noisy && r.once_in(3) {
+            all.push(noise(r, &piece));
+        }
+        all.push(Delivery { lent: r.one_of(&LENT), piece });
+    }
+    if noisy {
+        all.push(noise(r, b"more"));
+    }
+    all
+}
+
+// An empty piece, or one that comes with too little output: the next one tried before, or another.
+fn noise(r: &mut Random, piece: &[u8]) -> Delivery {
+    match r.below(4) {
+        0 => Delivery { lent: r.one_of(&LENT), piece: vec![] },
+        1 => Delivery { lent: r.one_of(&SHORT), piece: vec![] },
+        2 => Delivery { lent: r.one_of(&SHORT), piece: piece.to_vec() },
+        _ => Delivery { lent: r.one_of(&SHORT), piece: r.some_bytes(20) },
+    }
+}

@@ -1,0 +1,451 @@
+//! The kept list: cases that hold every outcome, status and boundary.
+use crate::case::*;
+use crate::draw::EDGES;
+use crate::expect::expect;
+use crate::{generate, model};
+use std::collections::{BTreeMap, HashSet};
+use std::fs;
+
+const CASES: usize = 2200;
+// Random cases fill the list up, as far as they are small.
+const SMALL: usize = 500;
+
+const OPENS4: [u8; 8] = [0, 90, 0, 80, 10, 0, 0, 1];
+const IPV6_REPLY: [u8; 22] = [5, 0, 0, 4, 32, 1, 13, 184, 0, 0, 0, 0, 0, 0, 0, 0, 0, 0, 0, 1, 0, 80];
+const SHORT_NAME: [u8; 8] = [5, 0, 0, 3, 1, b'x', 0, 80];
+
+#[derive(Default)]
+struct List {
+    cases: Vec<Case>,
+    seen: HashSet<Vec<u8>>,
+}
+
+impl List {
+    fn add(&mut self, case: Case) {
+        if self.seen.insert(case.bytes()) {
+            self.cases.push(case);
+        }
+    }
+}
+
+fn base(version: u8) -> Case {
+    Case {
+        version,
+        flags: PORT,
+        port: 443,
+        lent: 2048,
+        host: b"a.example".to_vec(),
+        user: vec![],
+        password: vec![],
+        records: vec![],
+        deliveries: vec![],
+    }
+}
+
+impl Case {
+    fn host(mut self, host: &[u8]) -> Case {
+        self.host = host.to_vec();
+        self
+    }
+
+    fn flag(mut self, flags: u8) -> Case {
+        self.flags |= flags;
+        self
+    }
+
+    fn credentials(mut self, user: usize, password: usize) -> Case {
+        (self.user, self.password) = (vec![b'u'; user], vec![b'p'; password]);
+        self.flag(CREDENTIALS)
+    }
+
+    // Records of these families, each with an address of its own.
+    fn records(mut self, families: &str) -> Case {
+        let address = |n: u8| std::array::from_fn(|i| 16 * n + i as u8);
+        self.records = families.bytes().zip(1..).map(|(family, n)| (family - b'0', address(n))).collect();
+        self
+    }
+
+    fn lent(mut self, lent: u16) -> Case {
+        self.lent = lent;
+        self
+    }
+
+    fn piece(mut self, piece: &[u8]) -> Case {
+        self.deliveries.push(Delivery { lent: 2048, piece: piece.to_vec() });
+        self
+    }
+
+    // A delivery that lends so much.
+    fn piece_lent(mut self, lent: u16, piece: &[u8]) -> Case {
+        self.deliveries.push(Delivery { lent, piece: piece.to_vec() });
+        self
+    }
+
+    fn each_byte(mut self, stream: &[u8]) -> Case {
+        for b in stream {
+            self = self.piece(&[*b]);
+        }
+        self
+    }
+}
+
+// The replies that open a session, for a case without damage.
+fn good(case: &Case) -> Vec<u8> {
+    match (case.version, case.has(CREDENTIALS)) {
+        (4, _) => OPENS4.to_vec(),
+        (_, false) => [&[5, 0], &SHORT_NAME[..]].concat(),
+        (_, true) => [&[5, 2, 1, 0], &SHORT_NAME[..]].concat(),
+    }
+}
+
+fn served(case: Case) -> Case {
+    let replies = good(&case);
+    case.piece(&replies)
+}
+
+// ---- openings
+
+// Each check alone and every set of them together, so that their order shows.
+fn refusals(list: &mut List) {
+    let hosts: [&[u8]; 7] = [b"a", b"", b"[]", b"a b", b"::1", b"1.2.3.4", &[b'n'; 1015]];
+    for version in [5, 4] {
+        for host in hosts {
+            for rest in (0..16).filter(|rest| version == 5 || rest & 4 == 0) {
+                let mut case = base(version).host(host).lent(if rest & 1 == 0 { 2048 } else { 261 });
+                if rest & 2 != 0 {
+                    case.flags &= !PORT;
+                }
+                if rest & 4 != 0 {
+                    case = case.credentials(0, 256);
+                }
+                if rest & 8 != 0 {
+                    case = case.flag(LOCAL_LOOKUP);
+                }
+                if rest % 3 == 0 {
+                    case = case.flag(END);
+                }
+                list.add(case.piece(&[5, 0]).piece_lent(100, b"lost"));
+            }
+        }
+    }
+}
+
+fn outputs(list: &mut List) {
+    for version in [5, 4] {
+        for n in [0, 1, 261, 262, 263, 1023, 1024, 1025, 2047, 2048, 2049, 65535] {
+            list.add(served(base(version).lent(n)));
+            list.add(served(base(version).lent(n).host(&[b'n'; 1014])));
+            list.add(served(base(version).lent(n).host(b"1.2.3.4").credentials(123, 123).flag(OPTIMISTIC)));
+            let replies = good(&base(version));
+            list.add(base(version).piece_lent(n, &replies).piece(&replies).piece_lent(n, b"xy"));
+        }
+    }
+}
+
+fn host_bytes(list: &mut List) {
+    for b in 0..=255 {
+        list.add(served(base(5).host(&[b'a', b, b'z'])));
+    }
+    for b in [0, 0x20, 0x21, 0x7E, 0x7F, 0x80, 0xFF] {
+        for host in [&[b][..], &[b, b'a'], &[b'a', b], &[b'[', b, b']'], &[b'[', b'a', b]] {
+            list.add(base(4).host(host));
+            list.add(served(base(5).host(host)));
+        }
+    }
+}
+
+const HOSTS: &str = "
+    [ ] [] ][ [[ ]] [[] []] [[]] [a a] [a] [[a]] a[] []a [2001:db8::1] 2001:db8::1 [::1 ::1] [1.2.3.4] 1.2.3.4 0.0.0.0
+    0.0.0.5 255.255.255.255 192.0.2.7 01.2.3.4 1.2.3.04 256.1.1.1 1.2.3 1.2.3.4.5 1.2.3.4. .1.2.3.4 1..3.4 1.2.3.4::
+    :: : ::: ::1 1:: 1:2:3:4:5:6:7:8 1:2:3:4:5:6:7 1:2:3:4:5:6:7:: 1:2:3:4:5:6:7:8:: ::2:3:4:5:6:7:8 ::1:2:3:4:5:6:7:8
+    1::2::3 12345:: g:: ::ffff:1.2.3.4 ::1.2.3.4 1:2:3:4:5:6:1.2.3.4 1:2:3:4:5:6:7:1.2.3.4 1:2:3:4:5::1.2.3.4
+    1:2:3:4:5:6::1.2.3.4 ::01.2.3.4 ::1.2.3.4:5 fe80::1%1 ABCD:ef01:: 0000:0:00:000:0:0:0:0 00000:: a example.com
+    h-1.example. [example.com] 1.2.3.4:80 hello-world 2001:db8:0:0:1:0:0:1";
+
+fn host_texts(list: &mut List) {
+    for text in HOSTS.split_whitespace() {
+        list.add(base(4).host(text.as_bytes()));
+        list.add(served(base(5).host(text.as_bytes())));
+    }
+}
+
+fn name_lengths(list: &mut List) {
+    for n in [1, 2, 11, 100, 200, 246, 247, 251, 252, 253, 254, 255, 256, 257, 1013, 1014, 1015, 1016, 5000] {
+        let name = vec![b'n'; n];
+        let bracketed = [b"[", &name[..], b"]"].concat();
+        for flags in [0, OPTIMISTIC] {
+            list.add(served(base(5).host(&name).flag(flags)));
+            list.add(served(base(5).host(&name).flag(flags).credentials(1, 1)));
+        }
+        list.add(served(base(5).host(&bracketed)));
+        list.add(served(base(5).host(&name).flag(LOCAL_LOOKUP).records("4")));
+        list.add(served(base(4).host(&name)));
+        list.add(served(base(4).host(&bracketed)));
+        list.add(served(base(4).host(&name).flag(LOCAL_LOOKUP).records("64")));
+    }
+}
+
+fn credential_lengths(list: &mut List) {
+    let lengths = [0, 1, 2, 122, 123, 124, 125, 246, 247, 254, 255, 256, 257];
+    for user in lengths {
+        for password in [0, 123, 255, 256] {
+            list.add(served(base(5).host(b"1.2.3.4").credentials(user, password)));
+            list.add(base(5).host(b"1.2.3.4").credentials(password, user).flag(OPTIMISTIC).piece(&[5, 2, 1, 0]));
+        }
+    }
+    // all requests together at the limit, for each kind of destination
+    let name = |n| "n".repeat(n);
+    let hosts =
+        [("1.2.3.4".into(), 246), ("::1".into(), 234), (name(1), 248), (name(200), 49), (name(249), 0), (name(250), 0)];
+    for (host, most) in hosts {
+        for sum in [most.max(1) - 1, most, most + 1] {
+            for user in [0, sum / 2, sum] {
+                for flags in [0, OPTIMISTIC] {
+                    list.add(served(base(5).host(host.as_bytes()).credentials(user, sum - user).flag(flags)));
+                }
+            }
+        }
+    }
+    let mut case = base(5).credentials(3, 3);
+    (case.user, case.password) = ("\u{E9}\u{20AC}".into(), vec![0, 0x20, 0x7F]);
+    list.add(served(case.clone()));
+    // not UTF-8: no Rust string, lawful here
+    case.user = EDGES.to_vec();
+    list.add(served(case));
+}
+
+fn ports(list: &mut List) {
+    for version in [5, 4] {
+        for port in [0, 1, 80, 255, 256, 443, 32768, 65535] {
+            for host in [&b"1.2.3.4"[..], b"name", b"::1"] {
+                let mut case = base(version).host(host);
+                case.port = port;
+                list.add(served(case));
+            }
+        }
+        let mut case = base(version);
+        case.flags &= !PORT;
+        list.add(served(case));
+    }
+}
+
+fn lookups(list: &mut List) {
+    for version in [5, 4] {
+        for records in ["", "4", "6", "46", "64", "44", "66", "6644", "66666664", "66666666"] {
+            for host in [&b"name"[..], b"1.2.3.4", b"[::1]"] {
+                for flags in [0, LOCAL_LOOKUP] {
+                    list.add(served(base(version).host(host).flag(flags).records(records)));
+                }
+            }
+        }
+    }
+}
+
+// ---- replies
+
+fn method_replies(list: &mut List) {
+    for b in (0..=8).chain(0x7E..=0x81).chain(0xFC..=0xFF) {
+        list.add(base(5).piece(&[5, b]));
+    }
+    for b in [0, 1, 2, 3, 4, 0x7F, 0x80, 0xFE, 0xFF] {
+        list.add(base(5).credentials(1, 1).piece(&[5, b]));
+        list.add(base(5).credentials(1, 1).flag(OPTIMISTIC).piece(&[5, b, 1, 0]));
+        list.add(base(5).flag(OPTIMISTIC).each_byte(&[5, b, 5]));
+        list.add(base(5).piece(&[b, 0]));
+        list.add(base(5).credentials(1, 1).piece(&[5, 2, 1, b]));
+        list.add(base(5).credentials(1, 1).piece(&[5, 2, b, 0]));
+        list.add(base(5).credentials(1, 1).each_byte(&[5, 2, 1, b, 5]));
+    }
+}
+
+fn connect_replies(list: &mut List) {
+    let addresses: [&[u8]; 3] = [&[1, 192, 0, 2, 7, 31, 144], &IPV6_REPLY[3..], &SHORT_NAME[3..]];
+    for status in [0, 1, 2, 3, 4, 5, 6, 7, 8, 9, 10, 127, 128, 255] {
+        for address in addresses {
+            let stream = [&[5, 0, 5, status, 0], address, b"on"].concat();
+            list.add(base(5).piece(&stream));
+            list.add(base(5).each_byte(&stream));
+            list.add(base(5).piece(&stream[..stream.len() - 3]).flag(END));
+        }
+    }
+    for b in [0, 1, 2, 3, 4, 5, 6, 8, 9, 0x7F, 0x80, 0xFF] {
+        for n in 3..=5 {
+            list.add(base(5).piece(&[&[5, 0, b, 0, 0, 1], &[0; 6][..]].concat()[..2 + n]));
+            list.add(base(5).piece(&[&[5, 0, 5, 0, b, 1], &[0; 6][..]].concat()[..2 + n]));
+            list.add(base(5).piece(&[&[5, 0, 5, 0, 0, b], &[0; 20][..]].concat()[..2 + n]));
+        }
+        list.add(base(5).piece(&[5, 0, 5, 5, 0, b, 0]));
+    }
+    for n in [0, 1, 2, 3, 127, 128, 253, 254, 255] {
+        let stream = [&[5, 0, 5, 0, 0, 3, n as u8], &vec![b'n'; n][..], &[0, 80], b"rest"].concat();
+        list.add(base(5).piece(&stream));
+        list.add(base(5).piece(&stream[..6 + n]));
+        list.add(base(5).piece(&stream[..6 + n]).flag(END));
+        list.add(base(5).piece(&stream[..8 + n]).piece(&stream[8 + n..]));
+        list.add(base(5).piece(&stream[..2]).piece(&stream[2..]));
+        list.add(base(5).each_byte(&stream[..stream.len().min(20)]).piece(&stream[stream.len().min(20)..]));
+    }
+}
+
+fn bound_names(list: &mut List) {
+    let mut names: Vec<Vec<u8>> = vec![];
+    for a in EDGES {
+        names.extend([
+            vec![a],
+            vec![0xE0, a, 0x80],
+            vec![0xED, a, 0x80],
+            vec![0xF0, a, 0x80, 0x80],
+            vec![0xF4, a, 0x80, 0x80],
+        ]);
+        if a >= 0xC0 {
+            names.extend([vec![a, 0x80], vec![a, 0x80, 0x80], vec![a, 0x80, 0x80, 0x80]]);
+        }
+    }
+    names.push("\u{65E5}\u{672C}\u{8A9E}.jp".into());
+    names.push("a\u{1F600}b\u{10FFFF}".into());
+    names.push([&[b'x'; 254][..], &[0xC3]].concat());
+    names.push([&[b'x'; 253][..], "\u{E9}".as_bytes()].concat());
+    for name in names {
+        let stream = [&[5, 0, 5, 0, 0, 3, name.len() as u8], &name[..], &[0, 80, 7]].concat();
+        list.add(base(5).host(b"h").piece(&stream));
+    }
+}
+
+fn replies4(list: &mut List) {
+    for b in (80..=100).chain([0, 1, 127, 128, 255]) {
+        list.add(base(4).host(b"h").piece(&[0, b, 0, 80, 1, 2, 3, 4]));
+    }
+    for b in [1, 4, 5, 90, 128, 255] {
+        for n in [7, 8, 9] {
+            list.add(base(4).host(b"h").piece(&[b, 90, 0, 0, 0, 0, 0, 0, 0][..n]));
+        }
+    }
+    for code in 89..=94 {
+        let stream = [0, code, 0, 80, 1, 2, 3, 4, 9];
+        list.add(base(4).host(b"h").each_byte(&stream));
+        for n in 0..8 {
+            list.add(base(4).host(b"h").piece(&stream[..n]).flag(if code % 2 == 0 { END } else { 0 }));
+        }
+    }
+}
+
+// ---- pieces
+
+// Whole handshakes: every prefix, every cut in two, byte by byte, with noise between, with bytes behind.
+fn pieces(list: &mut List) {
+    let four = [5, 0, 0, 1, 192, 0, 2, 7, 31, 144];
+    let with = base(5).host(b"192.0.2.7").credentials(1, 2);
+    let handshakes = [
+        (base(5).host(b"192.0.2.7"), [&[5, 0], &four[..], b"SDF"].concat()),
+        (base(5), [&[5, 0], &IPV6_REPLY[..], b"S"].concat()),
+        (with.clone(), [&[5, 2, 1, 0], &SHORT_NAME[..], b"SDF"].concat()),
+        (with.flag(OPTIMISTIC), [&[5, 2, 1, 0], &four[..], b"SDF"].concat()),
+        (base(4), [&OPENS4[..], b"SDF"].concat()),
+    ];
+    for (case, stream) in handshakes {
+        for n in 0..=stream.len() {
+            let (before, behind) = stream.split_at(n);
+            list.add(case.clone().piece(before).flag(END));
+            list.add(case.clone().piece(before).piece(behind));
+            if n % 3 == 0 {
+                let tried = case.clone().piece(before).piece(b"").piece_lent(261, behind);
+                list.add(tried.piece_lent(262, behind).piece_lent(0, b"").flag(END));
+            }
+        }
+        list.add(case.each_byte(&stream));
+    }
+}
+
+fn long_pieces(list: &mut List) {
+    let name = [&[5, 0, 0, 3, 255], &[b'n'; 255][..], &[0, 80]].concat();
+    let behind = vec![0xAB; 600];
+    for case in [base(5), base(5).credentials(1, 1), base(5).credentials(1, 1).flag(OPTIMISTIC)] {
+        let replies = good(&case);
+        let stream = [&replies[..replies.len() - SHORT_NAME.len()], &name, &behind].concat();
+        for n in [1, 2, 4, 255, 260, 261, 262, 263, 264, 265, 266, 267, 512, 513, 514] {
+            let (before, later) = stream.split_at(n);
+            list.add(case.clone().piece(before).piece(later));
+            list.add(case.clone().piece(before).flag(END));
+        }
+        list.add(case.clone().piece(&stream));
+        list.add(case.each_byte(&stream[..270]));
+    }
+    list.add(base(4).piece(&[&OPENS4[..], &[7; 3000]].concat()));
+    list.add(base(4).piece(&[4; 2000]));
+}
+
+// Document 01's bench sheet, and its own slips.
+fn bench(list: &mut List) {
+    list.add(base(5).host(b"[2001:db8::1]").piece(&[5, 0]));
+    for host in [&b"["[..], b"01.2.3.4", b"1:2:3:4:5:6:7::", b"1:2:3:4:5:6:7:8::", b"1.2.3.4::"] {
+        list.add(base(5).host(host).piece(&[5, 0]));
+    }
+    list.add(served(base(5).host(&[b'n'; 252])));
+    list.add(base(5).host(&[b'n'; 253]).piece(&[5, 0]));
+    for sum in [246, 247] {
+        list.add(base(5).host(b"192.0.2.7").credentials(sum - 100, 100).piece(&[5, 2, 1, 0]));
+    }
+    for reply in [&[5, 2][..], &[5, 0xFF], &[5, 1], &[5, 0, 5, 5, 0, 9], &[5, 0, 5, 5, 0, 9, 0], &[5, 0, 5, 0, 0, 3, 0]]
+    {
+        list.add(base(5).piece(reply));
+    }
+    list.add(base(5).credentials(1, 1).piece(&[5, 2, 1, 7]));
+    list.add(base(5).each_byte(&[5, 0, 5, 0, 0, 3, 1, 0xFF, 0, 80]));
+    list.add(base(4).piece(&[4, 90, 0, 0, 0, 0, 0]));
+    list.add(base(4).piece(&[4, 90, 0, 0, 0, 0, 0]).piece(&[0]));
+    list.add(base(4).piece(&[0, 91, 0, 0, 0, 0, 0, 0]));
+    list.add(base(4).host(b"elevenbytes"));
+}
+
+fn cases() -> Vec<Case> {
+    let mut list = List::default();
+    let parts = [
+        bench,
+        refusals,
+        outputs,
+        host_bytes,
+        host_texts,
+        name_lengths,
+        credential_lengths,
+        ports,
+        lookups,
+        method_replies,
+        connect_replies,
+        bound_names,
+        replies4,
+        pieces,
+        long_pieces,
+    ];
+    for part in parts {
+        part(&mut list);
+    }
+    let fill = CASES.saturating_sub(list.cases.len());
+    for case in (0..).map(|n| generate::case(1, n)).filter(|case| case.bytes().len() < SMALL).take(fill) {
+        list.add(case);
+    }
+    list.cases
+}
+
+// Writes the list and its answers, and says what it holds; fails where the original and the model differ.
+pub fn write(dir: &str) -> Result<(), String> {
+    let (mut stdin, mut stdout) = (vec![], String::new());
+    let mut held: BTreeMap<String, usize> = BTreeMap::new();
+    let cases = cases();
+    for case in &cases {
+        let line = expect(case)
+            .map_err(|told| format!("{}: {} but {told}", hex(&case.bytes()), model::answer(case).text()))?;
+        case.write(&mut stdin);
+        stdout += &(line.text() + "\n");
+        let outcome = line.outcome.map_or("waiting".into(), |n| format!("{n:2}"));
+        *held.entry(format!("{outcome} {}", line.status)).or_default() += 1;
+    }
+    // a case that the program refuses, and what it must not reach
+    stdout += &format!("bad case at {}\n", stdin.len());
+    stdin.extend([6, 8]);
+    base(5).write(&mut stdin);
+    let saved = fs::create_dir_all(dir).and_then(|()| fs::write(format!("{dir}/stdin"), &stdin));
+    saved.and_then(|()| fs::write(format!("{dir}/stdout"), &stdout)).map_err(|e| format!("{dir}: {e}"))?;
+    println!("{} cases, {} bytes, answers {} bytes; outcome and status:", cases.len(), stdin.len(), stdout.len());
+    println!("{}", held.iter().map(|(what, n)| format!("{what}: {n}")).collect::<Vec<_>>().join(", "));
+    Ok(())
+}

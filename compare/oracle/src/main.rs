@@ -1,0 +1,87 @@
+//! Holds the Rust original, document 01's model and the program `replay` together; see the usage below.
+use std::io::Read;
+use std::process::ExitCode;
+use std::time::Instant;
+
+mod call;
+mod case;
+#[allow(unused)] // the original, of which only a part is called
+mod client;
+mod compare;
+mod draw;
+mod expect;
+mod generate;
+mod list;
+mod load;
+mod model;
+mod rt;
+mod rust;
+mod shrink;
+mod speed;
+mod standin;
+
+// The original names hyper's `rt`; ours stands in for it.
+extern crate self as hyper;
+
+const USAGE: &str = "\
+oracle self SEED COUNT                       the original against the model
+oracle random SEED COUNT REPLAY [--plant N]  and the program REPLAY against both
+oracle list DIR                              writes the kept list and its answers, DIR/stdin and DIR/stdout
+oracle one                                   what the original says of one case on standard input
+oracle call VERSION URI                      what its wrapper sends for a URI
+oracle load COUNT SEED [bytes]               the load of F-13 on the original
+oracle speed LOAD COUNT SEED                 and the program LOAD against it";
+
+fn one() -> Result<bool, String> {
+    let mut bytes = vec![];
+    std::io::stdin().read_to_end(&mut bytes).map_err(|e| e.to_string())?;
+    println!("{}", expect::show(&case::Case::read(&bytes).ok_or("no case")?));
+    Ok(true)
+}
+
+fn said(text: String) -> bool {
+    println!("{text}");
+    true
+}
+
+fn timed_load(count: u64, seed: u32, bytes: bool) -> bool {
+    let start = Instant::now();
+    said(load::load(count, seed, bytes));
+    said(format!("seconds {:.3}", start.elapsed().as_secs_f64()))
+}
+
+fn number(text: &str) -> Result<u64, String> {
+    text.parse().map_err(|_| format!("no number: {text}"))
+}
+
+// Whether all is well.
+fn run(args: &[&str]) -> Result<bool, String> {
+    match *args {
+        ["self", seed, count] => Ok(compare::random(number(seed)?, number(count)?, None, None)),
+        ["random", seed, count, replay] => {
+            Ok(compare::random(number(seed)?, number(count)?, Some(replay.into()), None))
+        }
+        ["random", seed, count, replay, "--plant", n] => {
+            Ok(compare::random(number(seed)?, number(count)?, Some(replay.into()), Some(number(n)?)))
+        }
+        ["list", dir] => list::write(dir).map(|()| true),
+        ["one"] => one(),
+        ["call", version, uri] => call::call(version, uri).map(said),
+        ["load", count, seed] => Ok(timed_load(number(count)?, number(seed)? as u32, false)),
+        ["load", count, seed, "bytes"] => Ok(timed_load(number(count)?, number(seed)? as u32, true)),
+        ["speed", load, count, seed] => speed::speed(load, number(count)?, number(seed)? as u32),
+        _ => Err(USAGE.into()),
+    }
+}
+
+fn main() -> ExitCode {
+    let args: Vec<String> = std::env::args().skip(1).collect();
+    match run(&args.iter().map(String::as_str).collect::<Vec<_>>()) {
+        Ok(true) => ExitCode::SUCCESS,
+        Ok(false) => ExitCode::FAILURE,
+        Err(text) => {
+            eprintln!("{text}");
+            ExitCode::from(2)
+        }
+    }
+}

@@ -1,0 +1,275 @@
+//! Document 01 in plain Rust: what a case must answer, field by field. Written from its words, not from the original.
+use crate::case::*;
+use std::net::IpAddr;
+
+// The line of `replay`. No outcome is waiting, 0 is open, any other number is the failure's.
+#[derive(Clone, PartialEq)]
+pub struct Line {
+    pub rests: Vec<u8>,
+    pub sent: Vec<u8>,
+    pub outcome: Option<u8>,
+    pub status: u8,
+    pub total: usize,
+    pub open: u8,
+    pub answers: Vec<u8>,
+    pub end: Option<u8>,
+}
+
+impl Line {
+    pub fn text(&self) -> String {
+        let outcome = self.outcome.map_or("waiting".into(), |n| n.to_string());
+        let answers = self.answers.iter().map(u8::to_string).collect::<Vec<_>>().join(",");
+        let answers = if answers.is_empty() { "-".into() } else { answers };
+        let end = self.end.map_or("-".into(), |n| n.to_string());
+        let (rests, sent) = (hex(&self.rests), hex(&self.sent));
+        format!("{rests} {sent} {outcome} {} {} {} {answers} {end}", self.status, self.total, self.open)
+    }
+}
+
+// ---- Host, Address text, Lookup
+
+pub fn strip(host: &[u8]) -> &[u8] {
+    match host {
+        [b'[', inside @ .., b']'] => inside,
+        _ => host,
+    }
+}
+
+fn address_text(host: &[u8]) -> Option<IpAddr> {
+    std::str::from_utf8(host).ok()?.parse().ok()
+}
+
+pub fn address(record: &Record) -> IpAddr {
+    match record {
+        (4, [a, b, c, d, ..]) => IpAddr::from([*a, *b, *c, *d]),
+        (_, bytes) => IpAddr::from(*bytes),
+    }
+}
+
+fn looked_up(case: &Case) -> Option<IpAddr> {
+    case.records.iter().map(address).find(|ip| case.version == 5 || ip.is_ipv4())
+}
+
+// ---- Opening v5, Opening v4: the number of the first check that refuses, else 0
+
+fn check(case: &Case) -> u8 {
+    let (v5, host) = (case.version == 5, strip(&case.host));
+    let text = address_text(host);
+    let lookup_fails = || case.has(LOCAL_LOOKUP) && looked_up(case).is_none();
+    if lent(case.lent) < if v5 { 262 } else { 1024 } {
+        1
+    } else if host.is_empty() {
+        2
+    } else if host.iter().any(|b| !(0x21..=0x7E).contains(b)) {
+        3
+    } else if !case.has(PORT) {
+        4
+    } else if v5 && case.has(CREDENTIALS) && case.user.len().max(case.password.len()) > 255 {
+        5
+    } else if !v5 && text.is_some_and(|ip| ip.is_ipv6()) {
+        7
+    } else if text.is_none() && host.len() > if v5 { 255 } else { 1014 } {
+        6
+    } else if text.is_none() && lookup_fails() {
+        8
+    } else {
+        0
+    }
+}
+
+// ---- v5 requests, v4 request
+
+// The address asked for; none means the name is sent.
+fn asked(case: &Case) -> Option<IpAddr> {
+    match address_text(strip(&case.host)) {
+        None if case.has(LOCAL_LOOKUP) => looked_up(case),
+        text => text,
+    }
+}
+
+fn method(case: &Case) -> u8 {
+    if case.has(CREDENTIALS) { 2 } else { 0 }
+}
+
+fn credentials(case: &Case) -> Vec<u8> {
+    let (user, password) = (&case.user[..], &case.password[..]);
+    [&[1, user.len() as u8], user, &[password.len() as u8], password].concat()
+}
+
+pub fn connect(case: &Case) -> Vec<u8> {
+    let host = strip(&case.host);
+    let destination = match asked(case) {
+        Some(IpAddr::V4(ip)) => [&[1], &ip.octets()[..]].concat(),
+        Some(IpAddr::V6(ip)) => [&[4], &ip.octets()[..]].concat(),
+        None => [&[3, host.len() as u8], host].concat(),
+    };
+    [&[5, 1, 0], &destination[..], &case.port.to_be_bytes()].concat()
+}
+
+fn request4(case: &Case) -> Vec<u8> {
+    let start = [&[4, 1], &case.port.to_be_bytes()[..]].concat();
+    match asked(case) {
+        Some(IpAddr::V4(ip)) => [&start, &ip.octets()[..], &[0]].concat(),
+        _ => [&start, &[0, 0, 0, 0xFF, 0][..], strip(&case.host), &[0]].concat(),
+    }
+}
+
+// ---- reading replies
+
+enum Reply {
+    Method(u8),
+    Credential,
+    Connect,
+    V4,
+}
+
+// Where a reply is decided, its number (0 is good) and its status.
+type Decided = (usize, u8, u8);
+
+// None: not decided by these bytes.
+fn decide(reply: &Reply, bytes: &[u8]) -> Option<Decided> {
+    match reply {
+        Reply::Method(sent) => decide_method(*sent, bytes.get(..2)?),
+        Reply::Credential => decide_credential(bytes.get(..2)?),
+        Reply::Connect => decide_connect(bytes),
+        Reply::V4 => decide_v4(bytes.get(..8)?),
+    }
+}
+
+fn decide_method(sent: u8, reply: &[u8]) -> Option<Decided> {
+    let number = match (reply[0], reply[1]) {
+        (5, 0xFF) => 12,
+        (5, method @ (0 | 2)) if method == sent => 0,
+        (5, 0 | 2) => 13,
+        _ => 10,
+    };
+    Some((2, number, 0))
+}
+
+fn decide_credential(reply: &[u8]) -> Option<Decided> {
+    let number = match (reply[0], reply[1]) {
+        (1, 0) => 0,
+        (1, _) => 14,
+        _ => 10,
+    };
+    Some((2, number, 0))
+}
+
+fn decide_connect(bytes: &[u8]) -> Option<Decided> {
+    let start = bytes.get(..3)?;
+    if start[0] != 5 || start[1] > 8 || start[2] != 0 {
+        return Some((3, 10, 0));
+    }
+    let length = usize::from(*bytes.get(4)?);
+    let whole = match bytes[3] {
+        1 => 10,
+        4 => 22,
+        3 if length > 0 => 7 + length,
+        _ => return Some((5, 10, 0)),
+    };
+    let reply = bytes.get(..whole)?;
+    if reply[3] == 3 && std::str::from_utf8(&reply[5..5 + length]).is_err() {
+        return Some((whole, 10, 0));
+    }
+    Some((whole, if reply[1] == 0 { 0 } else { 15 }, reply[1]))
+}
+
+fn decide_v4(reply: &[u8]) -> Option<Decided> {
+    Some(match (reply[0], reply[1]) {
+        (0, 90) => (8, 0, 0),
+        (0, status @ 91..=93) => (8, 15, status),
+        _ => (8, 10, 0),
+    })
+}
+
+// ---- the plain machine
+
+enum Step {
+    Send(Vec<u8>),
+    Expect(Reply),
+}
+
+// What an accepted opening sends and expects, in order.
+fn plan(case: &Case) -> Vec<Step> {
+    use Step::*;
+    if case.version == 4 {
+        return vec![Send(request4(case)), Expect(Reply::V4)];
+    }
+    let mut steps = vec![Send(vec![5, 1, method(case)]), Expect(Reply::Method(method(case)))];
+    if case.has(CREDENTIALS) {
+        steps.extend([Send(credentials(case)), Expect(Reply::Credential)]);
+    }
+    steps.extend([Send(connect(case)), Expect(Reply::Connect)]);
+    if case.has(OPTIMISTIC) {
+        steps.sort_by_key(|step| matches!(step, Expect(_)));
+    }
+    steps
+}
+
+struct State {
+    sent: Vec<u8>,
+    outcome: Option<u8>,
+    status: u8,
+    used: usize,
+}
+
+fn machine(steps: &[Step], limit: usize, list: &[u8]) -> State {
+    let mut now = State { sent: vec![], outcome: None, status: 0, used: 0 };
+    for step in steps {
+        match step {
+            Step::Send(request) if now.sent.len() + request.len() > limit => {
+                now.outcome = Some(11);
+                return now;
+            }
+            Step::Send(request) => now.sent.extend(request),
+            Step::Expect(reply) => {
+                let Some((count, number, status)) = decide(reply, &list[now.used..]) else {
+                    now.used = list.len();
+                    return now;
+                };
+                now.used += count;
+                if number != 0 {
+                    (now.outcome, now.status) = (Some(number), status);
+                    return now;
+                }
+            }
+        }
+    }
+    now.outcome = Some(0);
+    now
+}
+
+// ---- Delivery, End of stream, Tunnel
+
+pub fn answer(case: &Case) -> Line {
+    let open = check(case);
+    let limit = if case.version == 5 { 262 } else { usize::MAX };
+    let steps = if open == 0 { plan(case) } else { vec![] };
+    let mut now = machine(&steps, limit, &[]);
+    if open != 0 {
+        now.outcome = Some(open);
+    }
+    let (mut joined, mut rests, mut answers) = (vec![], vec![], vec![]);
+    for d in &case.deliveries {
+        let enough = lent(d.lent) >= 262;
+        let before = now.used;
+        if now.outcome.is_some() {
+            answers.push(16);
+        } else if !enough {
+            answers.push(1);
+        } else {
+            answers.push(0);
+            joined.extend(&d.piece);
+            now = machine(&steps, limit, &joined);
+        }
+        if enough {
+            rests.extend(&d.piece[now.used - before..]);
+        }
+    }
+    let waits = now.outcome.is_none();
+    let end = case.has(END).then_some(if waits { 0 } else { 16 });
+    if waits && end.is_some() {
+        now.outcome = Some(9);
+    }
+    Line { rests, sent: now.sent, outcome: now.outcome, status: now.status, total: now.used, open, answers, end }
+}

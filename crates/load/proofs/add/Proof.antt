@@ -1,0 +1,21 @@
+use lib.Seq.{length-take-le}
+use borrow.Author.Needs.{needs}
+use Rattle.load.proofs.add.Statement.{statement}
+use Rattle.load.proofs.add.Tie as tie
+
+wrapping-add-u64-requires : tie.Need-wrapping-add-u64-requires
+wrapping-add-u64-requires c κs = search needs
+
+total-requires : tie.Need-total-requires
+total-requires c κs = search needs
+
+wrapping-add-u64-requires-2 : tie.Need-wrapping-add-u64-requires-2
+wrapping-add-u64-requires-2 c κs = search needs
+
+returns : tie.Need-returns
+returns c = rw (length-take-le (c .before .before .before .before .args .n) (c .before .before .before .before .args .out .now) (search needs), ← c .before .total .ensures, ← c .before .before .wrapping-add-u64 .ensures, ← c .wrapping-add-u642 .ensures)
+
+pub add-spec : {M : Type 1} → statement M
+add-spec =
+    tie.close
+    (tie.spec wrapping-add-u64-requires total-requires wrapping-add-u64-requires-2 returns)

@@ -1,0 +1,53 @@
+use borrow.Author.Needs.{needs}
+use Prim.Native.Nat.{_≤_}
+use Rattle.load.proofs.run.Statement.{statement}
+use Rattle.load.proofs.run.Tie as tie
+
+abbrev Inv-loop : tie.InvT-loop
+Inv-loop count seed single longest replies tally₀ left₀ tally left = left ≤ count
+
+abbrev μ-loop : tie.MeasureT-loop
+μ-loop count seed single longest replies tally₀ left₀ tally left = left
+
+all-replies-requires : tie.Need-all-replies-requires Inv-loop μ-loop
+all-replies-requires c κs = search needs
+
+loop-holds : tie.Need-loop-holds Inv-loop μ-loop
+loop-holds c = search needs
+
+slice-aggregate-run-one : tie.Need-slice-aggregate-run-one Inv-loop μ-loop
+slice-aggregate-run-one c = search needs
+
+slice-aggregate-run-one-2 : tie.Need-slice-aggregate-run-one-2 Inv-loop μ-loop
+slice-aggregate-run-one-2 c = search needs
+
+run-one-requires : tie.Need-run-one-requires Inv-loop μ-loop
+run-one-requires c κs = search needs
+
+sub-left : tie.Need-sub-left Inv-loop μ-loop
+sub-left c = search needs
+
+loop-less : tie.Need-loop-less Inv-loop μ-loop
+loop-less c = search needs
+
+loop-again : tie.Need-loop-again Inv-loop μ-loop
+loop-again c = search needs
+
+returns : tie.Need-returns Inv-loop μ-loop
+returns c = search needs
+
+pub run-spec : {M : Type 1} → statement M
+run-spec =
+    tie.close
+    (tie.spec
+    Inv-loop
+    μ-loop
+    all-replies-requires
+    loop-holds
+    slice-aggregate-run-one
+    slice-aggregate-run-one-2
+    run-one-requires
+    sub-left
+    loop-less
+    loop-again
+    returns)

@@ -1,0 +1,324 @@
+// Runs the handshakes of a stated load, and says how many opened and what they sent: `load COUNT SEED [bytes]`, with `bytes` in pieces of one byte.
+ghost use mathlib.Core.Path.{_≡_};
+ghost use Prim.Native.Nat.{_*_, _≤_};
+ghost use lib.ListN.{length, take};
+ghost use Rattle.load.specs.Tally.{sumOf, added, isOpen, settled};
+ghost use Rattle.socks.specs.Session.{outcome};
+ghost use Rattle.load.specs.Arguments.{isDigit, noNumber, digitsFrom, numberOf, isBytes};
+
+mod draws;
+
+use libc::STDOUT_FILENO;
+use protocol::Family;
+use protocol::Outcome;
+use protocol::Port;
+use protocol::Record;
+use protocol::SocksConfig;
+use socks::Opened;
+use socks::Session;
+
+// What all handshakes so far came to, and the state that the next draw starts from.
+struct Tally {
+    state: u32,
+    opened: u64,
+    sent: u64,
+    sum: u64,
+}
+
+fn total(out: &[u8], n: usize) -> u64
+    requires { ⌜ (n ≤ length (now out)) × (length (now out) ≤ 1024) ⌝ }
+    ensures { λ r. ⌜ r ≡ sumOf (take n (now (out .entry))) ⌝ }
+{
+    let mut sum: u64 = 0;
+    let mut i = 0;
+    while i < n {
+        sum += out[i] as u64;
+        i += 1;
+    }
+    sum
+}
+
+fn add(tally: Tally, out: &[u8], n: usize, state: u32) -> Tally
+    requires { ⌜ (n ≤ length (now out)) × (length (now out) ≤ 1024) ⌝ }
+    ensures { λ r. ⌜ r ≡ added tally (take n (now (out .entry))) state ⌝ }
+{
+    Tally {
+        state,
+        opened: tally.opened,
+        sent: std::num::wrapping_add_u64(tally.sent, n as u64),
+        sum: std::num::wrapping_add_u64(tally.sum, total(out, n)),
+    }
+}
+
+fn is_open(session: Session) -> bool
+    ensures { λ r. ⌜ r ≡ isOpen (outcome session) ⌝ }
+{
+    match session.outcome() {
+        Outcome::Waiting => false,
+        Outcome::Open => true,
+        Outcome::Failed(error) => false,
+    }
+}
+
+fn settle(tally: Tally, session: Session) -> Tally
+    ensures { λ r. ⌜ r ≡ settled tally (outcome session) ⌝ }
+{
+    if !is_open(session) {
+        return tally;
+    }
+    Tally {
+        state: tally.state,
+        opened: std::num::wrapping_add_u64(tally.opened, 1),
+        sent: tally.sent,
+        sum: tally.sum,
+    }
+}
+
+// Delivers replies to an opened session, piece by piece.
+fn feed(from: Tally, opened: Opened, replies: &[u8], single: bool, out: &mut [u8]) -> Tally
+    requires { ⌜ (opened .sent ≤ length (now out)) × (length (now out) ≤ 1024) ⌝ }
+{
+    let mut session = opened.session;
+    let mut tally = add(from, out, opened.sent, from.state);
+    let mut at = 0;
+    while at < replies.len() {
+        let piece = draws::next_piece(tally.state, replies.len() - at, single);
+        let end = at + piece.len;
+        let delivered = session.deliver(&replies[at..end], out);
+        session = delivered.session;
+        tally = add(tally, out, delivered.sent, piece.state);
+        at = end;
+    }
+    settle(tally, session)
+}
+
+// A fresh output.
+fn output() -> [u8; 1024]
+    ensures { λ r. ⌜ 1024 ≡ length r ⌝ }
+{
+    [0u8; 1024]
+}
+
+// A list of no records: nothing is looked up.
+fn no_records() -> [Record; 8] {
+    let none = Record {
+        family: Family::Four,
+        address: [0u8; 16],
+    };
+    [none; 8]
+}
+
+// The opening for a name, with a user and a password of one byte if there are credentials.
+fn begin(v5: bool, credentials: bool, name: &[u8], out: &mut [u8]) -> Opened
+    ensures { λ r. ⌜ r .sent ≤ length (now (out .exit)) ⌝ }
+{
+    if !v5 {
+        return lists::open4(false, name, Port::Given(443), no_records(), 0, out);
+    }
+    let config = SocksConfig {
+        proxy_auth: credentials,
+        local_dns: false,
+        optimistic: false,
+    };
+    lists::open5(
+        config,
+        name,
+        Port::Given(443),
+        b"a",
+        b"a",
+        no_records(),
+        0,
+        out,
+    )
+}
+
+// The replies that open a session: v5 with credentials, v5 without, v4.
+fn all_replies() -> [u8; 30]
+    ensures { λ r. ⌜ 30 ≡ length r ⌝ }
+{
+    [
+        5,
+        2,
+        1,
+        0,
+        5,
+        0,
+        0,
+        3,
+        1,
+        0,
+        0,
+        0,
+        5,
+        0,
+        5,
+        0,
+        0,
+        3,
+        1,
+        0,
+        0,
+        0,
+        0,
+        0x5A,
+        0,
+        0,
+        0,
+        0,
+        0,
+        0,
+    ]
+}
+
+// Where the replies that open a session stand among all.
+struct Part {
+    from: usize,
+    to: usize,
+}
+
+fn replies_for(v5: bool, credentials: bool) -> Part
+    ensures { λ r. ⌜ (r .from ≤ r .to) × (r .to ≤ 30) ⌝ }
+{
+    if !v5 {
+        return Part { from: 22, to: 30 };
+    }
+    if credentials {
+        return Part { from: 0, to: 12 };
+    }
+    Part { from: 12, to: 22 }
+}
+
+// The next handshake. Its name is the start of the longest, its replies are a part of all.
+fn run_one(tally: Tally, longest: &[u8], replies: &[u8], single: bool) -> Tally
+    requires { ⌜ (200 ≤ length (now longest)) × (30 ≤ length (now replies)) ⌝ }
+{
+    let choice = draws::choose(tally.state);
+    let n = choice.name;
+    let drawn = Tally {
+        state: choice.state,
+        opened: tally.opened,
+        sent: tally.sent,
+        sum: tally.sum,
+    };
+    let mut out = output();
+    let opened = begin(choice.v5, choice.credentials, &longest[..n], &mut out);
+    let part = replies_for(choice.v5, choice.credentials);
+    let from = part.from;
+    let to = part.to;
+    feed(drawn, opened, &replies[from..to], single, &mut out)
+}
+
+fn run(count: u64, seed: u32, single: bool) -> Tally {
+    let longest = [0x61u8; 200];
+    let replies = all_replies();
+    let mut tally = Tally {
+        state: seed,
+        opened: 0,
+        sent: 0,
+        sum: 0,
+    };
+    let mut left = count;
+    while left > 0 {
+        tally = run_one(tally, &longest, &replies, single);
+        left -= 1;
+    }
+    tally
+}
+
+// A number of at most 18 digits.
+struct Number {
+    ok: bool,
+    value: u64,
+}
+
+fn no_number() -> Number
+    ensures { λ r. ⌜ r ≡ noNumber ⌝ }
+{
+    Number {
+        ok: false,
+        value: 0,
+    }
+}
+
+fn is_digit(b: u8) -> bool
+    ensures { λ r. ⌜ r ≡ isDigit b ⌝ }
+{
+    48 <= b && b <= 57
+}
+
+// The value of digits; not ok if there is another byte among them.
+fn digits_of(text: &[u8]) -> Number
+    requires { ⌜ length (now text) ≤ 18 ⌝ }
+    ensures { λ r. ⌜ r ≡ digitsFrom 0 (now (text .entry)) ⌝ }
+{
+    let mut value: u64 = 0;
+    let mut i = 0;
+    while i < text.len() {
+        let b = text[i];
+        if !is_digit(b) {
+            return no_number();
+        }
+        value = value * 10 + (b - 48) as u64;
+        i += 1;
+    }
+    Number { ok: true, value }
+}
+
+fn number_of(text: &[u8]) -> Number
+    ensures { λ r. ⌜ r ≡ numberOf (now (text .entry)) ⌝ }
+{
+    if text.len() == 0 {
+        return no_number();
+    }
+    if text.len() > 18 {
+        return no_number();
+    }
+    digits_of(text)
+}
+
+fn argument(i: usize) -> Number {
+    let mut text = [0u8; 32];
+    let n = os::arg(i, &mut text);
+    number_of(&text[..n])
+}
+
+fn is_bytes(text: &[u8]) -> bool
+    ensures { λ r. ⌜ r ≡ isBytes (now (text .entry)) ⌝ }
+{
+    if text.len() != 5 {
+        return false;
+    }
+    text[0] == b'b'
+        && (text[1] == b'y' && (text[2] == b't' && (text[3] == b'e' && text[4] == b's')))
+}
+
+// Whether the third argument is `bytes`.
+fn single_bytes() -> bool {
+    let mut text = [0u8; 5];
+    let n = os::arg(3, &mut text);
+    is_bytes(&text[..n])
+}
+
+fn print(name: &[u8], value: u64) {
+    io::write_all(STDOUT_FILENO, name);
+    io::print_decimal(STDOUT_FILENO, value);
+}
+
+fn main() {
+    let count = argument(1);
+    let seed = argument(2);
+    if !(count.ok && seed.ok) {
+        io::write_all(STDOUT_FILENO, b"usage: load COUNT SEED [bytes]\n");
+        return;
+    }
+    let tally = run(
+        count.value,
+        (seed.value % 4294967296) as u32,
+        single_bytes(),
+    );
+    print(b"handshakes ", count.value);
+    print(b" open ", tally.opened);
+    print(b" sent ", tally.sent);
+    print(b" sum ", tally.sum);
+    io::write_all(STDOUT_FILENO, b"\n");
+}
