@@ -56,7 +56,7 @@ fn step(four: bool, chosen: Lookup, next: Record) -> Lookup
     chosen
 }
 
-// How many records there are to read.
+// The smaller of two counts.
 pub fn smaller(a: usize, b: usize) -> usize
     ensures { λ r. ⌜ r ≡ cond (leb a b) a b ⌝ }
 {
