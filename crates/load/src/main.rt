@@ -3,7 +3,7 @@ ghost use mathlib.Core.Path.{_≡_};
 ghost use Prim.Native.Nat.{_*_, _≤_};
 ghost use lib.ListN.{length, take};
 ghost use Rattle.load.specs.Tally.{sumOf, added, isOpen, settled};
-ghost use Rattle.socks.specs.Session.{outcome};
+ghost use Rattle.session.specs.Session.{outcome};
 ghost use Rattle.load.specs.Arguments.{isDigit, noNumber, digitsFrom, numberOf, isBytes};
 
 mod draws;
@@ -113,14 +113,14 @@ fn begin(v5: bool, credentials: bool, name: &[u8], out: &mut [u8]) -> Opened
     ensures { λ r. ⌜ r .sent ≤ length (now (out .exit)) ⌝ }
 {
     if !v5 {
-        return lists::open4(false, name, Port::Given(443), no_records(), 0, out);
+        return owned_records::open4(false, name, Port::Given(443), no_records(), 0, out);
     }
     let config = SocksConfig {
         proxy_auth: credentials,
         local_dns: false,
         optimistic: false,
     };
-    lists::open5(
+    owned_records::open5(
         config,
         name,
         Port::Given(443),

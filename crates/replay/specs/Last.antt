@@ -1,9 +1,9 @@
 -- A session after its last delivery.
 use mathlib.Core.Bool.{Bool, true, false, cond}
-use Rattle.socks.specs.declared.Session.{Session}
-use Rattle.socks.specs.Calls.{end}
+use Rattle.session.specs.declared.Session.{Session}
+use Rattle.session.specs.Calls.{end}
 use Rattle.replay.specs.declared.course.Last.{Last}
-use Rattle.replay.specs.Text.{answerNumber}
+use Rattle.report.specs.Text.{answerNumber}
 
 -- end of stream is a call of its own, if it comes at all
 abbrev pub lastOf : Session → Bool → Last

@@ -1,4 +1,2 @@
-pub mod Cases
-pub mod Text
 pub mod Bounds
 pub mod Last

@@ -5,16 +5,17 @@ ghost use mathlib.Core.Bool.{cond};
 ghost use mathlib.Core.List.{[]};
 ghost use lib.Dec.{ltb};
 ghost use lib.ListN.{length, take};
-ghost use Rattle.replay.specs.Bounds.{Within, Keeps};
-ghost use Rattle.replay.specs.Cases.{Ordered, restOf, deliverySize};
+ghost use Rattle.report.specs.Lines.{Within};
+ghost use Rattle.replay.specs.Bounds.{Keeps};
+ghost use Rattle.cases.specs.Cases.{Ordered, restOf, deliverySize};
 ghost use Rattle.replay.specs.Last.{lastOf};
-ghost use Rattle.replay.specs.Text.{Adds};
-use crate::heads;
-use crate::heads::Head;
-use crate::lines;
-use crate::lines::Line;
-use crate::text;
-use crate::text::Results;
+ghost use Rattle.report.specs.Text.{Adds};
+use cases::heads;
+use cases::heads::Head;
+use report::lines;
+use report::lines::Line;
+use report::text;
+use report::text::Results;
 use socks::Opened;
 use socks::Session;
 
@@ -44,7 +45,7 @@ fn begin(s: &[u8], head: Head, out: &mut [u8]) -> Opened
     let host = 8;
     let host_end = head.host;
     if heads::byte_at(s, 0) == 4 {
-        return lists::open4(
+        return owned_records::open4(
             config.local_dns,
             &s[host..host_end],
             port,
@@ -57,7 +58,7 @@ fn begin(s: &[u8], head: Head, out: &mut [u8]) -> Opened
     let user_end = head.user;
     let password = user_end + 2;
     let password_end = head.password;
-    lists::open5(
+    owned_records::open5(
         config,
         &s[host..host_end],
         port,

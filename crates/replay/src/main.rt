@@ -2,20 +2,21 @@
 ghost use mathlib.Core.Path.{_≡_};
 ghost use Prim.Native.Nat.{_+_, _≤_};
 ghost use lib.ListN.{length};
-ghost use Rattle.replay.specs.Bounds.{Unread, Within, Keeps, Rooms};
-ghost use Rattle.replay.specs.Cases.{Ordered};
+ghost use Rattle.cases.specs.Inputs.{Unread};
+ghost use Rattle.report.specs.Lines.{Within};
+ghost use Rattle.replay.specs.Bounds.{Keeps, Rooms};
+ghost use Rattle.cases.specs.Cases.{Ordered};
 
 mod course;
-mod heads;
-mod input;
-mod lines;
-mod text;
 
+use cases::heads;
+use cases::heads::Head;
+use cases::input;
+use cases::input::Input;
 use course::Course;
-use heads::Head;
-use input::Input;
 use libc::STDOUT_FILENO;
-use lines::Line;
+use report::lines;
+use report::lines::Line;
 
 // More than all that stands before the deliveries of a case: three texts of 65,535 bytes and 255 records.
 const OPENING: usize = 201000;

@@ -8,7 +8,7 @@ use Rattle.protocol.specs.Opening.{firstFour, check5, check4, opening5, opening
 use Rattle.protocol.specs.Utf8.{classOf, among, first, next, scan, isBoundary, isUtf8}
 use Rattle.protocol.specs.Replies.{negotiationVerdict, authenticationVerdict, responseVerdict, headAllowed, typeAllowed, proxySize, nameField, proxyVerdict, proxyAt, decide}
 use Rattle.protocol.specs.Examples.{cases}
-use Rattle.socks.specs.Calls.{open5, open4, deliver}
+use Rattle.session.specs.Calls.{open5, open4, deliver}
 use Rattle.socks.specs.Examples.{called}
 use Rattle.talk.specs.Talk.{feed, onward}
 use Rattle.talk.specs.Tunnel.{after, total, sentBy, rests}

@@ -1,15 +1,3 @@
 pub mod Tunnels
 pub mod Openings
-pub mod Steps
-pub mod Turning
-pub mod Deliveries
-pub mod Keeping
-pub mod Reading
-pub mod Sending
-pub mod CheckLaws
-pub mod Beginning
-pub mod Accepting
-pub mod Requesting
 pub mod Examples
-pub mod Refusals
-pub mod Records

@@ -13,39 +13,14 @@ use Rattle.protocol.specs.AddressReading.{Destination, ipv4, ipv6, domain}
 use Rattle.protocol.specs.Requests.{authenticationReq, proxyReq, keptDestination}
 use Rattle.protocol.specs.Opening.{V5, V4, check5, check4, Opening, v5, v4, noAuth, userPass, opening5, opening4}
 use Rattle.protocol.specs.Client as client
-use Rattle.socks.specs.declared.Kept.{Kept}
-use Rattle.socks.specs.Session.{requestsOf}
-use Rattle.socks.specs.Calls.{addressOf, keptWith, keptBy, emptySession, begins, openBy, open5, open4, receiver}
+use Rattle.turns.specs.declared.Kept.{Kept}
+use Rattle.turns.specs.Stages.{requestsOf}
+use Rattle.session.specs.Calls.{addressOf, keptWith, keptBy, emptySession, begins, openBy, open5, open4, receiver}
 use Rattle.socks.specs.Demand3.{Demand3}
+use Rattle.openings.proofs.KeptBy.{kept-by}
 use Rattle.socks.proofs.Tunnels.{view-packed, Begun, demand3}
 use Rattle.talk.specs.Talk.{feed}
 use Rattle.talk.specs.Tunnel.{Delivery, joined}
-
--- ---- what is kept of an opening is what it asks
-
-kept-address : (d : Destination) (port : ℕ) → keptDestination (addressOf d port) ≡ d
-kept-address (ipv4 bs) port = rw take-append-seam
-kept-address (ipv6 bs) port = rw take-append-seam
-kept-address (domain s) port = rw take-append-seam
-
-same-kept : (k l : client.Kept) → k .optimistic ≡ l .optimistic → k .authentication ≡ l .authentication → k .proxy ≡ l .proxy → k ≡ l
-same-kept k l p q r = λ i. record { optimistic = p i; authentication = q i; proxy = r i }
-
-address-port : (d : Destination) (port : ℕ) → addressOf d port .port ≡ port
-address-port (ipv4 bs) port = refl
-address-port (ipv6 bs) port = refl
-address-port (domain s) port = refl
-
-with-kept : (o : Bool) (d : Destination) (port : ℕ) (u p : List ℕ)
-    → requestsOf (keptWith o (addressOf d port) u p) ≡ record { optimistic = o; authentication = authenticationReq u p; proxy = proxyReq d port }
-with-kept o d port u p =
-    same-kept _ _ refl (rw (take-append-seam u (replicate (255 - length u) 0), take-append-seam p (replicate (255 - length p) 0)))
-    (rw (kept-address d port, address-port d port))
-
-pub kept-by : (o : Opening) → requestsOf (keptBy o) ≡ client.kept o
-kept-by (v5 noAuth d port o) = with-kept o d port [] []
-kept-by (v5 (userPass u p) d port o) = with-kept o d port u p
-kept-by (v4 d port) = with-kept false (ipv4 (replicate 4 0)) 0 [] []
 
 begun : (o : Opening) (out : List ℕ)
     → let a = begins o (feed (client.side o) (client.begun o) []) out in Begun o (a .session) (take (a .sent) (a .output))

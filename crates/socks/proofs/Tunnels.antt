@@ -14,9 +14,10 @@ use Rattle.protocol.specs.Machine.{Machine, machine, used}
 use Rattle.protocol.specs.Client as client
 use Rattle.protocol.proofs.Client.{client-lawful, begun-shaped, machine-feed, used-feed}
 use Rattle.protocol.proofs.Sequences.{open-just, open-one}
-use Rattle.socks.specs.declared.Session.{Session}
-use Rattle.socks.specs.Session.{SideSession, requestsOf, view, packed, outcome}
-use Rattle.socks.specs.Calls.{refusal, takes, deliver, receiver}
+use Rattle.session.specs.declared.Session.{Session}
+use Rattle.turns.specs.Stages.{SideSession, requestsOf}
+use Rattle.session.specs.Session.{view, packed, outcome}
+use Rattle.session.specs.Calls.{refusal, takes, deliver, receiver}
 use Rattle.socks.specs.Demand3.{Alike, Demand3}
 use Rattle.talk.specs.Talk as talk
 use Rattle.talk.specs.Tunnel as side

@@ -8,9 +8,9 @@ use Rattle.protocol.specs.declared.Outcome.the-variants.{Open}
 use Rattle.protocol.specs.Opening.{Opening, Fits}
 use Rattle.protocol.specs.Machine.{machine, used}
 use Rattle.protocol.proofs.Sequences.{Replied, JustOne}
-use Rattle.socks.specs.declared.Session.{Session}
-use Rattle.socks.specs.Session.{outcome}
-use Rattle.socks.specs.Calls.{receiver}
+use Rattle.session.specs.declared.Session.{Session}
+use Rattle.session.specs.Session.{outcome}
+use Rattle.session.specs.Calls.{receiver}
 use Rattle.talk.specs.Tunnel.{Delivery, joined, Tunnel, tunnel}
 
 -- what two tunnels have alike: outcome with status, sent bytes, total count and rests

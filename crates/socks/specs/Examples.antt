@@ -6,8 +6,8 @@ use Rattle.protocol.specs.declared.Answer.{Answer}
 use Rattle.protocol.specs.declared.Answer.the-variants.{Accepted, Refused}
 use Rattle.protocol.specs.Numbers.{number, status}
 use Rattle.protocol.specs.Examples.{Case, host, over5, over4, Shown, fails, shown, computed}
-use Rattle.socks.specs.Session.{outcome}
-use Rattle.socks.specs.Calls.{Call, open5, open4, receiver}
+use Rattle.session.specs.Session.{outcome}
+use Rattle.session.specs.Calls.{Call, open5, open4, receiver}
 use Rattle.talk.specs.Tunnel.{Delivery, tunnel}
 
 -- a piece with an output of 262 bytes

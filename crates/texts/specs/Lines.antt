@@ -11,8 +11,8 @@ use Rattle.protocol.specs.declared.AddressKind.the-variants.{Ipv4, Ipv6, Domain
 use Rattle.protocol.specs.AddressReading.{destinationOf}
 use Rattle.protocol.specs.Host.{strip}
 use Rattle.protocol.specs.Utf8.{isUtf8}
-use Rattle.host.specs.declared.AddressText.{AddressText}
-use Rattle.host.specs.Answers.{addressText}
+use Rattle.addresses.specs.declared.AddressText.{AddressText}
+use Rattle.addresses.specs.Answers.{addressText}
 
 -- two digits for each byte
 unfoldable pub hexOf : List ℕ → List ℕ

@@ -11,7 +11,7 @@ ghost use Rattle.io.specs.Digits.{glyph};
 ghost use Rattle.protocol.specs.AddressReading.{destinationOf};
 ghost use Rattle.protocol.specs.Host.{strip};
 ghost use Rattle.protocol.specs.Utf8.{isUtf8};
-ghost use Rattle.host.specs.Answers.{addressText};
+ghost use Rattle.addresses.specs.Answers.{addressText};
 ghost use Rattle.texts.specs.Records.{isKind, Sized};
 ghost use Rattle.texts.specs.Lines.{hexOf, addressLine, utf8Line, hostLine, answerOf, lineAt, Adds};
 
@@ -71,7 +71,7 @@ fn put_address(text: &[u8], out: &mut [u8], at: usize) -> usize
     ensures { λ r. ⌜ r ≤ at + 34 ⌝ }
     ensures { λ r. ⌜ Adds (now (out .entry)) at (addressLine (addressText (destinationOf (now (text .entry))))) r (now (out .exit)) ⌝ }
 {
-    let address = host::read_address(text);
+    let address = addresses::read_address(text);
     let kind = address.kind;
     let bytes = address.bytes;
     match kind {

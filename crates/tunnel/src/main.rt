@@ -101,7 +101,7 @@ fn begin(out: &mut [u8]) -> Opened
         family: Family::Four,
         address: [0u8; 16],
     };
-    lists::open5(
+    owned_records::open5(
         config,
         b"192.0.2.7",
         Port::Given(443),

@@ -2,7 +2,8 @@ use lib.ListN.{length-set, length}
 use native.Mathlib.Omega.{arith}
 use mathlib.Core.Path.{_∙_, _≡_}
 use borrow.Author.Needs.{needs}
-use Rattle.replay.specs.Bounds.{Unread, Keeps}
+use Rattle.cases.specs.Inputs.{Unread}
+use Rattle.replay.specs.Bounds.{Keeps}
 use Prim.Native.Nat.{_-_, _≤_}
 use Rattle.replay.proofs.take_deliveries.Statement.{statement}
 use Rattle.replay.proofs.take_deliveries.Tie as tie

@@ -2,7 +2,7 @@ use native.Mathlib.Nat.{le-trans}
 use Prim.Native.Nat.{ℕ, _≤_}
 use mathlib.Core.List.{List}
 use mathlib.Core.Path.{subst⁻¹}
-use Rattle.replay.proofs.Records.{rest-short}
+use Rattle.cases.proofs.Records.{rest-short}
 use lib.ListN.{length}
 use borrow.Author.Needs.{needs}
 use Rattle.replay.proofs.course.deliver.Statement.{statement}

@@ -1,4 +1,4 @@
-use Rattle.replay.proofs.Added.{nothing}
+use Rattle.report.proofs.Added.{nothing}
 use borrow.Author.Tests.{lt-ltb, le-ltb}
 use lib.Seq.{length-take-le}
 use mathlib.Core.Path.{sym}

@@ -1,0 +1,54 @@
+use Rattle.protocol.specs.AddressReading.{ipv4Of, destinationOf}
+use Rattle.addresses.proofs.Dots.{Read4, read4}
+use Rattle.addresses.proofs.Gaps.{any-name}
+use borrow.Author.Needs.{needs}
+use Rattle.addresses.proofs.read_address.Statement.{statement}
+use Rattle.addresses.proofs.read_address.Tie as tie
+
+-- what the kind says
+told : (c : tie.After-read-ipv4) → Read4 (ipv4Of (c .before .before .args .text .now)) (c .read-ipv4 .result .bytes) (c .read-ipv4 .result .kind)
+told c = rw (c .read-ipv4 .ensures) (read4 (ipv4Of (c .before .before .args .text .now)))
+
+read-ipv4-requires : tie.Need-read-ipv4-requires
+read-ipv4-requires c κs = search needs
+
+enum-told : tie.Need-enum-told
+enum-told c = search needs
+
+enum-told-2 : tie.Need-enum-told-2
+enum-told-2 c = search needs
+
+enum-told-3 : tie.Need-enum-told-3
+enum-told-3 c = search needs
+
+read-ipv6-requires : tie.Need-read-ipv6-requires
+read-ipv6-requires c κs = search needs
+
+returns : tie.Need-returns
+unfolding destinationOf
+returns c =
+    let (bs, e, f) = rw (c .enum-told .given .1) at (told (c .before .before)) in
+    rw e (rw e at (c .before .before .read-ipv4 .ensures))
+
+returns-2 : tie.Need-returns-2
+unfolding destinationOf
+returns-2 c = absurd (rw (c .enum-told2 .given .1) at (told (c .before .before)))
+
+returns-3 : tie.Need-returns-3
+unfolding destinationOf
+returns-3 c =
+    let e = rw (c .before .enum-told3 .given .1) at (told (c .before .before .before)) in
+    rw (e, any-name) (c .read-ipv6 .ensures)
+
+pub read-address-spec : {M : Type 1} → statement M
+read-address-spec =
+    tie.close
+    (tie.spec
+    read-ipv4-requires
+    enum-told
+    enum-told-2
+    enum-told-3
+    read-ipv6-requires
+    returns
+    returns-2
+    returns-3)

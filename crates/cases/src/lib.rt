@@ -1,0 +1,3 @@
+// The cases on standard input.
+pub mod heads;
+pub mod input;

@@ -1,0 +1,15 @@
+use borrow.Author.Needs.{needs}
+use Rattle.checks.proofs.lookups.looks_up.Statement.{statement}
+use Rattle.checks.proofs.lookups.looks_up.Tie as tie
+
+is-short-name-requires : tie.Need-is-short-name-requires
+is-short-name-requires c κs = search needs
+
+returns : tie.Need-returns
+returns c = rw (c .before .if1 .taken, c .is-short-name .ensures)
+
+returns-2 : tie.Need-returns-2
+returns-2 c = search needs
+
+pub looks-up-spec : {M : Type 1} → statement M
+looks-up-spec = tie.close (tie.spec is-short-name-requires returns returns-2)

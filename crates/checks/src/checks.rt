@@ -1,0 +1,177 @@
+// The checks of an opening, in their order.
+ghost use mathlib.Core.Path.{_≡_};
+ghost use mathlib.Core.Bool.{not, _&&_, _||_};
+ghost use mathlib.Core.List.{[]};
+ghost use lib.ListN.{length};
+ghost use lib.Dec.{ltb};
+ghost use Rattle.protocol.specs.Host.{strip, allAllowed};
+ghost use Rattle.protocol.specs.AddressReading.{destinationOf};
+ghost use Rattle.protocol.specs.Requests.{kindOf};
+ghost use Rattle.protocol.specs.Opening.{isEmpty, isMissing, isName, isIpv6, isNone, firstRecord, firstFour, check5, check4};
+ghost use Rattle.addresses.specs.Answers.{addressText};
+ghost use Rattle.lookup.specs.Chosen.{recordsOf};
+use lookup::Lookup;
+use protocol::AddressKind;
+use protocol::Answer;
+use protocol::Family;
+use protocol::Port;
+use protocol::SocksConfig;
+use protocol::SocksError;
+
+fn lacks_host(host: &[u8]) -> bool
+    ensures { λ r. ⌜ r ≡ (isEmpty (now (host .entry)) || isEmpty (strip (now (host .entry)))) ⌝ }
+{
+    if host.len() == 0 {
+        return true;
+    }
+    host::strip_ipv6_brackets(host).len() == 0
+}
+
+fn has_forbidden(host: &[u8]) -> bool
+    ensures { λ r. ⌜ r ≡ not (allAllowed (strip (now (host .entry)))) ⌝ }
+{
+    !host::all_allowed(host::strip_ipv6_brackets(host))
+}
+
+fn lacks_port(port: Port) -> bool
+    ensures { λ r. ⌜ r ≡ isMissing port ⌝ }
+{
+    match port {
+        Port::Missing => true,
+        Port::Given(_) => false,
+    }
+}
+
+fn credentials_too_long(auth: bool, user: &[u8], password: &[u8]) -> bool
+    ensures { λ r. ⌜ r ≡ (auth && (ltb 255 (length (now (user .entry))) || ltb 255 (length (now (password .entry))))) ⌝ }
+{
+    auth && (255 < user.len() || 255 < password.len())
+}
+
+// What the host is as address text.
+pub fn kind_of(host: &[u8]) -> AddressKind
+    ensures { λ r. ⌜ r ≡ addressText (destinationOf (strip (now (host .entry)))) .kind ⌝ }
+{
+    addresses::read_address(host::strip_ipv6_brackets(host)).kind
+}
+
+pub fn is_name(kind: AddressKind) -> bool
+    ensures { λ r. ⌜ r ≡ isName (kindOf kind []) ⌝ }
+{
+    match kind {
+        AddressKind::Ipv4 => false,
+        AddressKind::Ipv6 => false,
+        AddressKind::Domain => true,
+    }
+}
+
+fn is_ipv6(kind: AddressKind) -> bool
+    ensures { λ r. ⌜ r ≡ isIpv6 (kindOf kind []) ⌝ }
+{
+    match kind {
+        AddressKind::Ipv4 => false,
+        AddressKind::Ipv6 => true,
+        AddressKind::Domain => false,
+    }
+}
+
+// Whether a host that is a name has more bytes than a request takes.
+fn name_too_long(name: bool, host: &[u8], most: usize) -> bool
+    ensures { λ r. ⌜ r ≡ (name && ltb most (length (strip (now (host .entry))))) ⌝ }
+{
+    name && most < host::strip_ipv6_brackets(host).len()
+}
+
+fn finds_none(chosen: Lookup) -> bool
+    ensures { λ r. ⌜ r ≡ isNone (firstRecord (recordsOf chosen)) ⌝ }
+{
+    !chosen.found
+}
+
+pub fn finds_no_four(chosen: Lookup) -> bool
+    ensures { λ r. ⌜ r ≡ isNone (firstFour (recordsOf chosen)) ⌝ }
+{
+    if !chosen.found {
+        return true;
+    }
+    let first = chosen.first;
+    let family = first.family;
+    match family {
+        Family::Four => false,
+        Family::Six => true,
+    }
+}
+
+// Whether a name had to be looked up, and no record serves.
+fn lookup_failed(wanted: bool, name: bool, none: bool) -> bool
+    ensures { λ r. ⌜ r ≡ (wanted && (name && none)) ⌝ }
+{
+    wanted && (name && none)
+}
+
+// The checks of a v5 opening, for an output of so many bytes.
+pub fn check5(
+    config: SocksConfig,
+    host: &[u8],
+    port: Port,
+    user: &[u8],
+    password: &[u8],
+    chosen: Lookup,
+    room: usize,
+) -> Answer
+    ensures { λ r. ⌜ r ≡ check5 room (record { config = config; host = now (host .entry); port = port; user = now (user .entry); password = now (password .entry); records = recordsOf chosen }) ⌝ }
+{
+    if room < 262 {
+        return Answer::Refused(SocksError::ShortOutput);
+    }
+    if lacks_host(host) {
+        return Answer::Refused(SocksError::MissingHost);
+    }
+    if has_forbidden(host) {
+        return Answer::Refused(SocksError::HostByte);
+    }
+    if lacks_port(port) {
+        return Answer::Refused(SocksError::MissingPort);
+    }
+    if credentials_too_long(config.proxy_auth, user, password) {
+        return Answer::Refused(SocksError::CredentialTooLong);
+    }
+    let name = is_name(kind_of(host));
+    if name_too_long(name, host, 255) {
+        return Answer::Refused(SocksError::HostTooLong);
+    }
+    if lookup_failed(config.local_dns, name, finds_none(chosen)) {
+        return Answer::Refused(SocksError::DnsFailure);
+    }
+    Answer::Accepted
+}
+
+// The checks of a v4 opening, for an output of so many bytes.
+pub fn check4(local_dns: bool, host: &[u8], port: Port, chosen: Lookup, room: usize) -> Answer
+    ensures { λ r. ⌜ r ≡ check4 room (record { localDns = «local_dns»; host = now (host .entry); port = port; records = recordsOf chosen }) ⌝ }
+{
+    if room < 1024 {
+        return Answer::Refused(SocksError::ShortOutput);
+    }
+    if lacks_host(host) {
+        return Answer::Refused(SocksError::MissingHost);
+    }
+    if has_forbidden(host) {
+        return Answer::Refused(SocksError::HostByte);
+    }
+    if lacks_port(port) {
+        return Answer::Refused(SocksError::MissingPort);
+    }
+    let kind = kind_of(host);
+    if is_ipv6(kind) {
+        return Answer::Refused(SocksError::IpV6);
+    }
+    let name = is_name(kind);
+    if name_too_long(name, host, 1014) {
+        return Answer::Refused(SocksError::HostTooLong);
+    }
+    if lookup_failed(local_dns, name, finds_no_four(chosen)) {
+        return Answer::Refused(SocksError::DnsFailure);
+    }
+    Answer::Accepted
+}

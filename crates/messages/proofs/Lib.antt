@@ -1,6 +1,0 @@
-pub mod Laws
-pub mod Sizes
-pub mod Reading
-pub mod Returns
-pub mod Held
-pub mod Takes

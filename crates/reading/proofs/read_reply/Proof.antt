@@ -1,0 +1,57 @@
+use native.Mathlib.Omega.{arith}
+use borrow.Author.Needs.{needs}
+use Rattle.reading.proofs.read_reply.Statement.{statement}
+use Rattle.reading.proofs.read_reply.Tie as tie
+
+enum-known-reply : tie.Need-enum-known-reply
+enum-known-reply c = search needs
+
+read-negotiation-res-requires : tie.Need-read-negotiation-res-requires
+read-negotiation-res-requires c κs = search needs
+
+enum-told : tie.Need-enum-told
+enum-told c = search needs
+
+read-authentication-res-requires : tie.Need-read-authentication-res-requires
+read-authentication-res-requires c κs = search needs
+
+enum-told-2 : tie.Need-enum-told-2
+enum-told-2 c = search needs
+
+read-proxy-res-requires : tie.Need-read-proxy-res-requires
+read-proxy-res-requires c κs = search needs
+
+enum-told-3 : tie.Need-enum-told-3
+enum-told-3 c = search needs
+
+read-response-requires : tie.Need-read-response-requires
+read-response-requires c κs = search needs
+
+returns : tie.Need-returns
+returns c = (rw (c .before .before .reply .given .1) (c .read-negotiation-res .ensures), let h = c .before .before .before .before .shared-slice-known .given 4 in omega arith)
+
+returns-2 : tie.Need-returns-2
+returns-2 c = (rw (c .before .enum-told .given .1) (c .read-authentication-res .ensures), let h = c .before .before .before .shared-slice-known .given 4 in omega arith)
+
+returns-3 : tie.Need-returns-3
+returns-3 c = (rw (c .before .enum-told2 .given .1) (c .read-proxy-res .ensures), let h = c .before .before .before .shared-slice-known .given 4 in omega arith)
+
+returns-4 : tie.Need-returns-4
+returns-4 c = (rw (c .before .enum-told3 .given .1) (c .read-response .ensures), let h = c .before .before .before .shared-slice-known .given 4 in omega arith)
+
+pub read-reply-spec : {M : Type 1} → statement M
+read-reply-spec =
+    tie.close
+    (tie.spec
+    enum-known-reply
+    read-negotiation-res-requires
+    enum-told
+    read-authentication-res-requires
+    enum-told-2
+    read-proxy-res-requires
+    enum-told-3
+    read-response-requires
+    returns
+    returns-2
+    returns-3
+    returns-4)

@@ -1,0 +1,60 @@
+use Rattle.report.proofs.Added.{nothing, then, more-numbers}
+use Rattle.report.specs.Text.{Adds, moreText}
+use lib.Seq.{take-all}
+use lib.ListN.{length, take}
+use mathlib.Core.Path.{_≡_, refl}
+use Prim.Native.Nat.{_+_, _*_, _-_, _≤_}
+use borrow.Author.Needs.{needs}
+use Rattle.report.proofs.text.put_more.Statement.{statement}
+use Rattle.report.proofs.text.put_more.Tie as tie
+
+abbrev Inv-loop : tie.InvT-loop
+Inv-loop numbers text₀ at i₀ end₀ text i end = (length text ≡ length text₀) × ((i ≤ length numbers) × ((end ≤ at + 4 * i) × Adds text₀ at (moreText (take i numbers)) end text))
+
+abbrev μ-loop : tie.MeasureT-loop
+μ-loop numbers text₀ at i₀ end₀ text i end = length numbers - i
+
+loop-holds : tie.Need-loop-holds Inv-loop μ-loop
+unfolding moreText
+loop-holds c = (search needs, (search needs, (search needs, nothing _ _)))
+
+put-byte-requires : tie.Need-put-byte-requires Inv-loop μ-loop
+put-byte-requires c κs = search needs
+
+shared-slice-read-put-code : tie.Need-shared-slice-read-put-code Inv-loop μ-loop
+shared-slice-read-put-code c = search needs
+
+put-code-requires : tie.Need-put-code-requires Inv-loop μ-loop
+put-code-requires c κs = search needs
+
+add-i : tie.Need-add-i Inv-loop μ-loop
+add-i c = search needs
+
+loop-less : tie.Need-loop-less Inv-loop μ-loop
+loop-less c = search needs
+
+loop-again : tie.Need-loop-again Inv-loop μ-loop
+loop-again c = let b = c .before .before .before .before .before .before .before .before .before .before in
+    (search needs, (search needs, (search needs, more-numbers (b .before .before .before .args .numbers .now) (b .loop .i) _ (b .loop .inv .1 .1 .1) (c .before .before .before .before .before .before .before .before .before .loop-test .taken) refl (then (c .before .before .before .before .before .before .before .put-byte .ensures .1) (c .before .before .put-code .ensures .1)))))
+
+same-length : tie.Need-same-length Inv-loop μ-loop
+same-length c = search needs
+
+returns : tie.Need-returns Inv-loop μ-loop
+returns c = (search needs, rw (take-all (c .before .loop .i) (c .before .before .before .before .args .numbers .now) (c .loop-test .left)) at (c .before .loop .inv .1 .1 .1))
+
+pub put-more-spec : {M : Type 1} → statement M
+put-more-spec =
+    tie.close
+    (tie.spec
+    Inv-loop
+    μ-loop
+    loop-holds
+    put-byte-requires
+    shared-slice-read-put-code
+    put-code-requires
+    add-i
+    loop-less
+    loop-again
+    same-length
+    returns)

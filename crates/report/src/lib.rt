@@ -1,0 +1,3 @@
+// What is said of a run, as text.
+pub mod lines;
+pub mod text;

@@ -1,0 +1,135 @@
+-- What each call answers and leaves, for any arguments. A call's answer, session, counts and output are one record.
+use Prim.Native.Nat.{ℕ, _-_, _≤_}
+use mathlib.Core.Path.{_≡_}
+use mathlib.Core.Bool.{Bool, false, cond}
+use mathlib.Core.List.{List, [], _∷_, _++_}
+use lib.ListN.{length, drop, replicate}
+use lib.Dec.{leb}
+use Rattle.protocol.specs.declared.AddressKind.the-variants.{Ipv4, Ipv6, Domain}
+use Rattle.protocol.specs.declared.Address.{Address}
+use Rattle.protocol.specs.declared.SocksError.{SocksError}
+use Rattle.protocol.specs.declared.SocksError.the-variants.{ShortOutput, UnexpectedEof, Settled}
+use Rattle.protocol.specs.declared.Answer as code
+use Rattle.protocol.specs.declared.Answer.the-variants.{Accepted, Refused}
+use Rattle.protocol.specs.AddressReading.{Destination, ipv4, ipv6, domain}
+use Rattle.protocol.specs.Opening.{V5, V4, check5, check4, Opening, v5, v4, noAuth, userPass, opening5, opening4}
+use Rattle.protocol.specs.Client.{side, begun}
+use Rattle.turns.specs.declared.Stage.the-variants.{Failed}
+use Rattle.turns.specs.declared.Kept.{Kept}
+use Rattle.session.specs.declared.Session.{Session}
+use Rattle.session.specs.declared.Opened.{Opened}
+use Rattle.session.specs.declared.Delivered.{Delivered}
+use Rattle.session.specs.declared.Ended.{Ended}
+use Rattle.session.specs.Session.{sideOf, view, packed}
+use Rattle.talk.specs.Talk.{failed, ended, feed, onward, heldBy, isOver, reached}
+use Rattle.talk.specs.Tunnel.{Answer, Receiver}
+use Rattle.turns.specs.Stages.{SideFed}
+
+abbrev pub Call : Type 0
+Call = Answer Session code.Answer
+
+abbrev pub refusal : SocksError → Session → List ℕ → Call
+refusal e s out = record { answer = Refused e; session = s; used = 0; sent = 0; output = out }
+
+-- ---- what a function of the code returns and leaves in the output, as a call says; with the bounds that a caller slices by
+
+abbrev pub opened : Call → Opened
+opened c = record { answer = c .answer; sent = c .sent; session = c .session }
+
+pub record Opens (c : Call) (r : Opened) (out′ : List ℕ) : Type 0 where
+  pub returned : r ≡ opened c
+  pub output : out′ ≡ c .output
+  pub inside : r .sent ≤ length out′
+
+abbrev pub delivered : Call → Delivered
+delivered c = record { answer = c .answer; used = c .used; sent = c .sent; session = c .session }
+
+pub record Delivers (c : Call) (piece : List ℕ) (r : Delivered) (out′ : List ℕ) : Type 0 where
+  pub returned : r ≡ delivered c
+  pub output : out′ ≡ c .output
+  pub inside : r .sent ≤ length out′
+  pub within : r .used ≤ length piece
+
+abbrev pub endedBy : Call → Ended
+endedBy c = record { answer = c .answer; session = c .session }
+
+-- ---- Opening
+
+-- bytes at the start of an array of zeros
+abbrev pub padded : ℕ → List ℕ → List ℕ
+padded n bs = bs ++ replicate (n - length bs) 0
+
+abbrev pub addressOf : Destination → ℕ → Address
+addressOf (ipv4 bs) port = record { kind = Ipv4; len = length bs; bytes = padded 255 bs; port = port }
+addressOf (ipv6 bs) port = record { kind = Ipv6; len = length bs; bytes = padded 255 bs; port = port }
+addressOf (domain s) port = record { kind = Domain; len = length s; bytes = padded 255 s; port = port }
+
+abbrev pub keptWith : Bool → Address → List ℕ → List ℕ → Kept
+keptWith o a u p =
+    record { optimistic = o; address = a; user = padded 255 u; «user_len» = length u; password = padded 255 p; «password_len» = length p }
+
+abbrev pub nothingKept : Kept
+nothingKept = keptWith false (addressOf (ipv4 (replicate 4 0)) 0) [] []
+
+-- what a session keeps of an opening; over v4 nothing is due later
+abbrev pub keptBy : Opening → Kept
+keptBy (v5 noAuth d port o) = keptWith o (addressOf d port) [] []
+keptBy (v5 (userPass u p) d port o) = keptWith o (addressOf d port) u p
+keptBy (v4 d port) = nothingKept
+
+-- the empty session, failed with an error
+abbrev pub emptySession : Kept → SocksError → Session
+emptySession k e = record { stage = Failed e; held = 0; hold = replicate 261 0; kept = k }
+
+-- an accepted opening: its talk, fed with no byte; what is sent stands at the output's start
+abbrev pub begins : Opening → SideFed → List ℕ → Call
+begins o f out =
+    record {
+      answer = Accepted;
+      session = packed (emptySession (keptBy o) Settled) (f .session);
+      used = 0;
+      sent = length (f .sent);
+      output = f .sent ++ drop (length (f .sent)) out;
+    }
+
+abbrev pub openBy : code.Answer → Opening → List ℕ → Call
+openBy Accepted o out = begins o (feed (side o) (begun o) []) out
+openBy (Refused e) o out = refusal e (emptySession nothingKept e) out
+
+unfoldable pub open5 : V5 → List ℕ → Call
+open5 a out = openBy (check5 (length out) a) (opening5 a) out
+
+unfoldable pub open4 : V4 → List ℕ → Call
+open4 a out = openBy (check4 (length out) a) (opening4 a) out
+
+-- ---- Delivery
+
+abbrev pub moves : Session → SideFed → List ℕ → Call
+moves s f out =
+    record {
+      answer = Accepted;
+      session = packed s (f .session);
+      used = reached f - length (heldBy (view s));
+      sent = length (f .sent);
+      output = f .sent ++ drop (length (f .sent)) out;
+    }
+
+-- an empty piece changes nothing
+abbrev pub takes : Session → List ℕ → List ℕ → Call
+takes s [] out = record { answer = Accepted; session = s; used = 0; sent = 0; output = out }
+takes s (b ∷ bs) out = moves s (onward (sideOf s) (view s) (b ∷ bs)) out
+
+unfoldable pub deliver : Session → List ℕ → List ℕ → Call
+deliver s piece out =
+    cond (isOver (view s)) (refusal Settled s out)
+    (cond (leb 262 (length out)) (takes s piece out) (refusal ShortOutput s out))
+
+abbrev pub receiver : Receiver Session code.Answer
+receiver = record { room = 262; deliver = deliver }
+
+-- ---- End of stream
+
+unfoldable pub end : Session → Call
+end s =
+    cond (isOver (view s)) (refusal Settled s [])
+    (record { answer = Accepted; session = packed s (ended (failed UnexpectedEof)); used = 0; sent = 0; output = [] })

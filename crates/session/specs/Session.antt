@@ -1,0 +1,32 @@
+-- The session as the calls hold it, and the session of a handshake's side that it stands for.
+use Prim.Native.Nat.{ℕ}
+use mathlib.Core.List.{List, _++_}
+use lib.ListN.{length, take, drop}
+use Rattle.protocol.specs.declared.Outcome.{Outcome}
+use Rattle.protocol.specs.Client as client
+use Rattle.session.specs.declared.Session.{Session}
+use Rattle.talk.specs.Talk as talk
+use Rattle.turns.specs.Stages.{SideSession, requestsOf, viewAt, stageOf}
+
+abbrev pub sideOf : Session → talk.Side
+sideOf s = client.client (requestsOf (s .kept))
+
+-- the held bytes: the first of the hold, all of it where the count is larger
+abbrev pub heldBytes : Session → List ℕ
+heldBytes s = take (s .held) (s .hold)
+
+abbrev pub view : Session → SideSession
+view s = viewAt (s .stage) (heldBytes s)
+
+-- a session made to stand for another: of the hold only the first bytes change, as many as are held
+abbrev pub packed : Session → SideSession → Session
+packed s m =
+    record {
+      stage = stageOf m;
+      held = length (talk.heldBy m);
+      hold = talk.heldBy m ++ drop (length (talk.heldBy m)) (s .hold);
+      kept = s .kept;
+    }
+
+abbrev pub outcome : Session → Outcome
+outcome s = client.outcomeOf (view s)

@@ -1,0 +1,95 @@
+// Bytes written into a buffer at a place. The inner functions leave it to their callers that there is room.
+ghost use mathlib.Core.Path.{_≡_};
+ghost use mathlib.Core.Bool.{true};
+ghost use mathlib.Core.List.{[], _∷_};
+ghost use Prim.Native.Nat.{_+_, _≤_, _<_};
+ghost use lib.ListN.{length};
+ghost use lib.Dec.{leb};
+ghost use Rattle.protocol.specs.Bytes.{two};
+ghost use Rattle.protocol.specs.Requests.{methodByte};
+ghost use Rattle.wire.specs.Written.{Wrote, Writes};
+use protocol::AuthMethod;
+
+pub mod reader;
+
+// What a writer answers: the place behind what it wrote; or that it does not fit, with nothing written.
+pub enum Written {
+    At(usize),
+    WouldOverflow,
+}
+
+// Whether n more bytes fit behind a place.
+pub fn has_room(len: usize, at: usize, n: usize) -> bool
+    ensures { λ r. ⌜ r ≡ leb (at + n) len ⌝ }
+{
+    if len < at {
+        return false;
+    }
+    n <= len - at
+}
+
+// Copies src to a place.
+pub fn copy(out: &mut [u8], at: usize, src: &[u8]) -> usize
+    requires { ⌜ at + length (now src) ≤ length (now out) ⌝ }
+    ensures { λ r. ⌜ Wrote (now (out .entry)) at (now (src .entry)) r (now (out .exit)) ⌝ }
+{
+    let n = src.len();
+    let mut i = 0;
+    while i < n {
+        out[at + i] = src[i];
+        i += 1;
+    }
+    at + n
+}
+
+pub fn put_byte(out: &mut [u8], at: usize, b: u8) -> usize
+    requires { ⌜ at < length (now out) ⌝ }
+    ensures { λ r. ⌜ Wrote (now (out .entry)) at (b ∷ []) r (now (out .exit)) ⌝ }
+{
+    out[at] = b;
+    at + 1
+}
+
+// A port, most significant byte first.
+pub fn put_port(out: &mut [u8], at: usize, port: u16) -> usize
+    requires { ⌜ at + 2 ≤ length (now out) ⌝ }
+    ensures { λ r. ⌜ Wrote (now (out .entry)) at (two port) r (now (out .exit)) ⌝ }
+{
+    let next = put_byte(out, at, (port / 256) as u8);
+    put_byte(out, next, (port % 256) as u8)
+}
+
+// A length byte and the bytes that it counts.
+pub fn put_counted(out: &mut [u8], at: usize, src: &[u8]) -> usize
+    requires { ⌜ (length (now src) ≤ 255) × (at + (length (now src) + 1) ≤ length (now out)) ⌝ }
+    ensures { λ r. ⌜ Wrote (now (out .entry)) at (length (now (src .entry)) ∷ now (src .entry)) r (now (out .exit)) ⌝ }
+{
+    let next = put_byte(out, at, (src.len() % 256) as u8);
+    copy(out, next, src)
+}
+
+// Copies src to a place, if it fits.
+pub fn put(out: &mut [u8], at: usize, src: &[u8]) -> Written
+    ensures { λ r. ⌜ Writes true (now (out .entry)) at (now (src .entry)) r (now (out .exit)) ⌝ }
+{
+    if has_room(out.len(), at, src.len()) {
+        return Written::At(copy(out, at, src));
+    }
+    Written::WouldOverflow
+}
+
+pub fn method_byte(method: AuthMethod) -> u8
+    ensures { λ r. ⌜ r ≡ methodByte method ⌝ }
+{
+    match method {
+        AuthMethod::NoAuth => 0x00,
+        AuthMethod::UserPass => 0x02,
+        AuthMethod::NoneAcceptable => 0xFF,
+    }
+}
+
+pub fn wide(b: u8) -> usize
+    ensures { λ r. ⌜ r ≡ b ⌝ }
+{
+    b as usize
+}
