@@ -12,7 +12,7 @@ use Rattle.protocol.specs.AddressReading.{ipv4, ipv6, destinationOf}
 use Rattle.protocol.proofs.AddressDigits.{end, number-reads, group-reads}
 use Rattle.protocol.proofs.AddressIpv6.{dotted-length}
 use Rattle.protocol.proofs.Destinations.{ipv4-just, ipv6-just}
-use Rattle.addresses.proofs.Runs.{digits-within, within-small}
+use Rattle.digits.proofs.Runs.{digits-within, within-small}
 
 -- ---- lengths
 

@@ -1,5 +1,4 @@
 pub mod Lists
-pub mod Runs
 pub mod Dots
 pub mod Colons
 pub mod Gaps

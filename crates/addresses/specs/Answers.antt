@@ -3,28 +3,13 @@ use Prim.Native.Nat.{ℕ, _≤_}
 use mathlib.Core.Path.{_≡_}
 use mathlib.Core.Option.{Option, none}
 use mathlib.Core.List.{List, [], _++_}
-use mathlib.Core.Bool.{Bool, true, false}
 use lib.ListN.{length, take, drop, replicate}
-use Rattle.protocol.specs.declared.Digits.{Digits}
 use Rattle.protocol.specs.declared.AddressKind.the-variants.{Ipv4, Ipv6, Domain}
-use Rattle.protocol.specs.AddressReading.{decimalGoes, hexGoes, numberOf, groupOf, Row, no-row, ends, gap, Destination, ipv4, ipv6, domain, chosen}
+use Rattle.protocol.specs.AddressReading.{Row, no-row, ends, gap, Destination, ipv4, ipv6, domain, chosen}
 use Rattle.addresses.specs.declared.AddressText.{AddressText}
 use Rattle.addresses.specs.declared.address.Stop.{Stop}
 use Rattle.addresses.specs.declared.address.Stop.the-variants.{NoRow, Ends, Gap}
 use Rattle.addresses.specs.declared.address.GroupRow.{GroupRow}
-
--- digits of a number (decimal) or of a group: which may follow, the radix, and what a text begins with
-abbrev pub goesBy : Bool → ℕ → ℕ → ℕ → Bool
-goesBy true = decimalGoes
-goesBy false = hexGoes
-
-abbrev pub radixOf : Bool → ℕ
-radixOf true = 10
-radixOf false = 16
-
-abbrev pub digitsOf : Bool → List ℕ → Digits
-digitsOf true s = numberOf s
-digitsOf false s = groupOf s
 
 -- an ipv4's four bytes and twelve zeros, an ipv6's sixteen bytes, sixteen zeros for a name
 abbrev pub addressText : Destination → AddressText

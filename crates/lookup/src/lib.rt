@@ -1,11 +1,11 @@
 // A lookup's answers: a lent list of records, and the one of them that an opening takes.
 ghost use mathlib.Core.Path.{_≡_};
 ghost use lib.ListN.{take};
-ghost use lib.Dec.{leb};
-ghost use mathlib.Core.Bool.{cond, not, _&&_};
+ghost use mathlib.Core.Bool.{not, _&&_};
 ghost use Rattle.lookup.specs.Chosen.{serves, noneFound, stepOf, chosenOf};
 use protocol::Family;
 use protocol::Record;
+use wire::least;
 
 // The record taken, if there is one.
 pub struct Lookup {
@@ -56,18 +56,11 @@ fn step(four: bool, chosen: Lookup, next: Record) -> Lookup
     chosen
 }
 
-// The smaller of two counts.
-pub fn smaller(a: usize, b: usize) -> usize
-    ensures { λ r. ⌜ r ≡ cond (leb a b) a b ⌝ }
-{
-    if a <= b { a } else { b }
-}
-
 // The first record that serves, among so many at the list's start. Of a list that is not wanted no record is read.
 pub fn choose(records: &[Record], most: usize, four: bool) -> Lookup
     ensures { λ r. ⌜ r ≡ chosenOf four noneFound (take most (now (records .entry))) ⌝ }
 {
-    let end = smaller(most, records.len());
+    let end = least(most, records.len());
     let mut chosen = none_found();
     let mut i = 0;
     while i < end {

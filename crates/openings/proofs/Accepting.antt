@@ -2,42 +2,34 @@
 use Prim.Native.Nat.{ℕ, _+_, _≤_, zero-le}
 use native.Mathlib.Nat.{zero-add}
 use native.Mathlib.Omega.{arith}
-use mathlib.Core.Path.{_≡_, refl, ap, sym, _∙_, subst}
+use mathlib.Core.Path.{_≡_, refl, ap, sym, _∙_}
 use mathlib.Core.Bool.{Bool, true, false, cond, not, _&&_, _||_}
-use mathlib.Core.List.{List, [], _++_, append-nil}
+use mathlib.Core.List.{List, [], _++_}
 use lib.ListN.{length, drop, replicate}
-use lib.Dec.{ltb, leb}
+use lib.Dec.{ltb}
 use borrow.Author.Tests.{ltb-false}
-use Rattle.protocol.specs.declared.AuthMethod.{AuthMethod}
-use Rattle.protocol.specs.declared.AuthMethod.the-variants.{NoAuth, UserPass, NoneAcceptable}
-use Rattle.protocol.specs.declared.Reply.{Reply}
-use Rattle.protocol.specs.declared.Reply.the-variants.{NegotiationRes, AuthenticationRes, ProxyRes}
 use Rattle.protocol.specs.declared.SocksError.{SocksError}
-use Rattle.protocol.specs.declared.SocksError.the-variants.{ShortOutput, MissingHost, HostByte, MissingPort, CredentialTooLong, HostTooLong, IpV6, DnsFailure, WouldOverflow, Settled}
+use Rattle.protocol.specs.declared.SocksError.the-variants.{ShortOutput, MissingHost, HostByte, MissingPort, CredentialTooLong, HostTooLong, IpV6, DnsFailure, Settled}
 use Rattle.protocol.specs.declared.Answer.{Answer}
 use Rattle.protocol.specs.declared.Answer.the-variants.{Accepted, Refused}
 use Rattle.protocol.specs.declared.Address.{Address}
 use Rattle.protocol.specs.Host.{strip, allAllowed}
 use Rattle.protocol.specs.AddressReading.{Destination, destinationOf}
-use Rattle.protocol.specs.Requests.{negotiationReq, authenticationReq, proxyReq}
-use Rattle.protocol.specs.Replies.{decide}
-use Rattle.protocol.specs.Opening.{V5, V4, refuse, isEmpty, isMissing, isName, isNone, firstRecord, firstFour, check5, check4, Opening, v5, asked5, portNumber, credentialsIf, noAuth, userPass, opening5}
+use Rattle.protocol.specs.Opening.{V5, V4, refuse, isEmpty, isMissing, isName, isNone, firstRecord, firstFour, check5, check4, Opening, v5, asked5, portNumber, credentialsIf, opening5}
 use Rattle.protocol.specs.Client as client
-use Rattle.turns.specs.declared.Stage.{Stage}
-use Rattle.turns.specs.declared.Stage.the-variants.{Awaiting, Open, Failed}
-use Rattle.turns.specs.declared.Kept.{Kept}
+use Rattle.sending.specs.declared.Stage.{Stage}
+use Rattle.sending.specs.declared.Stage.the-variants.{Awaiting, Open, Failed}
+use Rattle.sending.specs.declared.Kept.{Kept}
 use Rattle.session.specs.declared.Session.{Session}
 use Rattle.session.specs.declared.Opened.{Opened}
-use Rattle.turns.specs.Stages.{requestsOf, viewAt}
+use Rattle.sending.specs.Stages.{viewAt}
 use Rattle.session.specs.Session.{packed}
-use Rattle.turns.specs.Stages.{SideFed}
+use Rattle.sending.specs.Stages.{SideFed}
 use Rattle.session.specs.Calls.{refusal, opened, Opens, addressOf, keptWith, keptBy, nothingKept, emptySession, openBy}
-use Rattle.openings.specs.Accepted.{methodOf, Short5, Short4}
-use Rattle.turns.specs.Steps.{Due, dueIf, followBy, dueFollow, firstStage, dueBegin, Sends}
+use Rattle.openings.specs.Accepted.{Short5, Short4}
+use Rattle.sending.specs.Due.{Due, Sends}
 use Rattle.session.proofs.Deliveries.{at-start, sent-inside}
-use Rattle.openings.proofs.KeptBy.{kept-by}
-use Rattle.talk.specs.Talk.{stop, failed, send, waiting, unmoved, sending, feed}
-use Rattle.talk.proofs.Feed.{same-fed}
+use Rattle.talk.specs.Talk.{feed}
 
 pub no : true ≡ false → ⊥
 no z = let y : _≡_ {A = ℕ} 0 1 = cc in omega arith
@@ -96,55 +88,9 @@ accepted4 room a e =
       record { name = short-name (isName (destinationOf (strip (a .host)))) (length (strip (a .host))) 1014 (p₆ .0); not-ipv6 = p₅ .0 },
     )
 
--- ---- the talk of an opening over v5, fed with no byte
-
+-- a talk fed with no byte, by what it sends and the stage behind it
 abbrev pub fedBy : Due → SideFed
 fedBy d = record { session = viewAt (d .stage) []; sent = d .sent; place = 0 }
-
-module _ (c : client.Kept) where
-  first-waits : (m : AuthMethod) → feed (client.client c) (client.talkAt c (NegotiationRes m)) [] ≡ unmoved (waiting (NegotiationRes m) [])
-  unfolding feed decide
-  first-waits m = refl
-
-  greeted : (m : AuthMethod) (t : client.ClientTalk) → feed (client.client c) (client.limited 0 (negotiationReq m) t) [] ≡ sending (negotiationReq m) (feed (client.client c) t [])
-  unfolding feed negotiationReq
-  greeted NoAuth t = refl
-  greeted UserPass t = refl
-  greeted NoneAcceptable t = refl
-
-  ahead : (m : AuthMethod) (q : List ℕ) (e : Reply) (b : Bool)
-      → feed (client.client c) (cond b (send q (client.talkAt c (NegotiationRes m))) (stop (failed WouldOverflow))) [] ≡ fedBy (record { sent = dueIf b q e .sent; stage = firstStage m (dueIf b q e .stage) })
-  unfolding feed decide
-  ahead m q e true = same-fed _ _ refl (append-nil q) refl
-  ahead m q e false = refl
-
-  ahead-both : (m : AuthMethod) (q r : List ℕ) (e f : Reply) (a b : Bool)
-      → feed (client.client c) (cond a (send q (cond b (send r (client.talkAt c (NegotiationRes m))) (stop (failed WouldOverflow)))) (stop (failed WouldOverflow))) []
-      ≡ fedBy (record { sent = followBy (dueIf a q e .stage) (dueIf a q e) (dueIf b r f) .sent; stage = firstStage m (followBy (dueIf a q e .stage) (dueIf a q e) (dueIf b r f) .stage) })
-  unfolding feed
-  ahead-both m q r e f true b = ap (λ (g : SideFed). sending q g) (ahead m r f b)
-  ahead-both m q r e f false b = refl
-
-begins-plainly : (c : client.Kept) (m : AuthMethod) (f : Due) → sending (negotiationReq m) (unmoved (waiting (NegotiationRes m) [])) ≡ fedBy (dueBegin false m f)
-begins-plainly c m f = same-fed _ _ refl (append-nil (negotiationReq m)) refl
-
-pub begun-fed : (b : Bool) (u p : List ℕ) (d : Destination) (port : ℕ) (o : Bool) → let x = v5 (credentialsIf b u p) d port o in
-    feed (client.side x) (client.begun x) [] ≡ fedBy (dueBegin o (methodOf b) (dueFollow (client.kept x) (methodOf b)))
-begun-fed false u p d port false =
-    let c = client.kept (v5 noAuth d port false) in
-    greeted c NoAuth _ ∙ ap (λ (g : SideFed). sending (negotiationReq NoAuth) g) (first-waits c NoAuth) ∙ begins-plainly c NoAuth (dueFollow c NoAuth)
-begun-fed false u p d port true =
-    let c = client.kept (v5 noAuth d port true) in
-    greeted c NoAuth _ ∙ ap (λ (g : SideFed). sending (negotiationReq NoAuth) g) (ahead c NoAuth (proxyReq d port) ProxyRes (leb (3 + length (proxyReq d port)) 262))
-begun-fed true u p d port false =
-    let c = client.kept (v5 (userPass u p) d port false) in
-    greeted c UserPass _ ∙ ap (λ (g : SideFed). sending (negotiationReq UserPass) g) (first-waits c UserPass) ∙ begins-plainly c UserPass (dueFollow c UserPass)
-begun-fed true u p d port true =
-    let c = client.kept (v5 (userPass u p) d port true) in
-    greeted c UserPass _
-    ∙ ap (λ (g : SideFed). sending (negotiationReq UserPass) g)
-    (ahead-both c UserPass (authenticationReq u p) (proxyReq d port) AuthenticationRes ProxyRes (leb (3 + length (authenticationReq u p)) 262)
-    (leb (3 + length (authenticationReq u p) + length (proxyReq d port)) 262))
 
 -- ---- what an opening returns
 
@@ -168,24 +114,6 @@ begins-by o d {out} {out′} {stage} {next} {s} e w q =
       output = at-start (w .wrote) ∙ ap (λ (b : List ℕ). b ++ drop (length b) out) (sym f);
       inside = sent-inside (w .wrote);
     }
-
-kept-optimistic : (b : Bool) (u p : List ℕ) (d : Destination) (port : ℕ) (o : Bool) → client.kept (v5 (credentialsIf b u p) d port o) .optimistic ≡ o
-kept-optimistic true u p d port o = refl
-kept-optimistic false u p d port o = refl
-
--- the same over v5, from what the code keeps
-pub accepts5 : (a : V5) {k : Kept} {out out′ : List ℕ} {stage : Stage} {next : ℕ} {s : Session} → k ≡ keptBy (opening5 a)
-    → Sends (dueBegin (k .optimistic) (methodOf (a .config .«proxy_auth»)) (dueFollow (requestsOf k) (methodOf (a .config .«proxy_auth»)))) out 0 stage next out′
-    → s ≡ packed (emptySession k Settled) (viewAt stage []) → Opens (openBy Accepted (opening5 a) out) (record { answer = Accepted; sent = next; session = s }) out′
-unfolding opening5
-accepts5 a {k} {out} {out′} {stage} {next} {s} e w q =
-    let m = methodOf (a .config .«proxy_auth») in
-    let r : requestsOf k ≡ client.kept (opening5 a) = ap requestsOf e ∙ kept-by (opening5 a) in
-    let x = kept-optimistic (a .config .«proxy_auth») (a .user) (a .password) (asked5 (a .config .«local_dns») (a .records) (destinationOf (strip (a .host)))) (portNumber (a .port)) (a .config .optimistic) in
-    begins-by (opening5 a) (dueBegin (client.kept (opening5 a) .optimistic) m (dueFollow (client.kept (opening5 a)) m))
-    (begun-fed (a .config .«proxy_auth») (a .user) (a .password) _ _ (a .config .optimistic) ∙ ap (λ (b : Bool). fedBy (dueBegin b m (dueFollow (client.kept (opening5 a)) m))) (sym x))
-    (subst (λ (c : client.Kept). Sends (dueBegin (c .optimistic) m (dueFollow c m)) out 0 stage next out′) r w)
-    (q ∙ ap (λ (j : Kept). packed (emptySession j Settled) (viewAt stage [])) e)
 
 pub refuses : (x : Answer) (o : Opening) (out : List ℕ) {e : SocksError} {r : Opened} → x ≡ Refused e → r ≡ opened (refusal e (emptySession nothingKept e) []) → Opens (openBy x o out) r out
 refuses x o out p q = rw p (record { returned = q; output = refl; inside = rw q zero-le })
@@ -212,7 +140,3 @@ keeps5 a {k} {x} {n} {u} {p} e f g h i =
 
 pub refused-is : (e : SocksError) {k : Kept} {s : Session} → k ≡ nothingKept → s ≡ packed (emptySession k Settled) (viewAt (Failed e) []) → record { answer = Refused e; sent = 0; session = s } ≡ opened (refusal e (emptySession nothingKept e) [])
 refused-is e p q = same-opened refl (q ∙ ap (λ (j : Kept). packed (emptySession j Settled) (viewAt (Failed e) [])) p)
-
-pub sends-method : (k : Kept) {m n : AuthMethod} → m ≡ n → {out : List ℕ} {stage : Stage} {next : ℕ} {out′ : List ℕ} → Sends (dueBegin (k .optimistic) m (dueFollow (requestsOf k) m)) out 0 stage next out′
-    → Sends (dueBegin (k .optimistic) n (dueFollow (requestsOf k) n)) out 0 stage next out′
-sends-method k p {out} {stage} {next} {out′} s = subst (λ (m : AuthMethod). Sends (dueBegin (k .optimistic) m (dueFollow (requestsOf k) m)) out 0 stage next out′) p s

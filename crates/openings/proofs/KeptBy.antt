@@ -3,21 +3,15 @@ use Prim.Native.Nat.{ℕ, _-_}
 use mathlib.Core.Path.{_≡_, refl}
 use mathlib.Core.Bool.{Bool, false}
 use mathlib.Core.List.{List, []}
-use lib.ListN.{length, take, replicate}
+use lib.ListN.{length, replicate}
 use lib.Seq.{take-append-seam}
-use Rattle.protocol.specs.declared.SocksError.the-variants.{Settled}
-use Rattle.protocol.specs.declared.Answer.{Answer}
-use Rattle.protocol.specs.declared.Answer.the-variants.{Accepted}
-use Rattle.protocol.specs.Bytes.{Bytes}
 use Rattle.protocol.specs.AddressReading.{Destination, ipv4, ipv6, domain}
 use Rattle.protocol.specs.Requests.{authenticationReq, proxyReq, keptDestination}
-use Rattle.protocol.specs.Opening.{V5, V4, check5, check4, Opening, v5, v4, noAuth, userPass, opening5, opening4}
+use Rattle.protocol.specs.Opening.{Opening, v5, v4, noAuth, userPass}
 use Rattle.protocol.specs.Client as client
-use Rattle.turns.specs.declared.Kept.{Kept}
-use Rattle.turns.specs.Stages.{requestsOf}
-use Rattle.session.specs.Calls.{addressOf, keptWith, keptBy, emptySession, begins, openBy, open5, open4, receiver}
-use Rattle.talk.specs.Talk.{feed}
-use Rattle.talk.specs.Tunnel.{Delivery, joined}
+use Rattle.sending.specs.declared.Kept.{Kept}
+use Rattle.sending.specs.Stages.{requestsOf}
+use Rattle.session.specs.Calls.{addressOf, keptWith, keptBy}
 
 kept-address : (d : Destination) (port : ℕ) → keptDestination (addressOf d port) ≡ d
 kept-address (ipv4 bs) port = rw take-append-seam

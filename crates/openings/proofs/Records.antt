@@ -1,10 +1,9 @@
 -- What an opening reads of its list of records is all that it asks of it.
 use Prim.Native.Nat.{ℕ, _<_, _^_}
 use native.Mathlib.Omega.{arith}
-use mathlib.Core.Path.{_≡_, refl, sym, ap, _∙_, subst}
+use mathlib.Core.Path.{_≡_, refl, ap, _∙_, subst}
 use mathlib.Core.Bool.{Bool, true, false, cond, not, _&&_, _||_}
-use mathlib.Core.Option.{Option}
-use mathlib.Core.List.{List, [], _∷_}
+use mathlib.Core.List.{List}
 use lib.ListN.{length, take}
 use lib.Seq.{take-all}
 use lib.Dec.{ltb}
@@ -17,7 +16,6 @@ use Rattle.protocol.specs.declared.Answer.{Answer}
 use Rattle.protocol.specs.declared.Answer.the-variants.{Accepted}
 use Rattle.protocol.specs.Host.{strip, allAllowed}
 use Rattle.protocol.specs.AddressReading.{Destination, ipv4, ipv6, domain, destinationOf}
-use Rattle.protocol.specs.Requests.{Destination4}
 use Rattle.protocol.specs.Opening.{V5, V4, firstRecord, firstFour, refuse, isEmpty, isMissing, isName, isIpv6, isNone, check5, check4, Opening, v5, v4, Credentials, asked5, asked4, credentialsIf, portNumber, opening5, opening4}
 use Rattle.lookup.specs.declared.Lookup.{Lookup}
 use Rattle.lookup.specs.Chosen.{noneFound, chosenOf, recordsOf}

@@ -1,10 +1,9 @@
 -- What the checks of an accepted opening give the code that follows them.
 use Prim.Native.Nat.{ℕ, _≤_}
 use mathlib.Core.Path.{_≡_}
-use mathlib.Core.Bool.{Bool, true, false, cond, _&&_, not}
-use mathlib.Core.List.{List, []}
+use mathlib.Core.Bool.{Bool, true, false, cond}
+use mathlib.Core.List.{[]}
 use lib.ListN.{length}
-use lib.Dec.{ltb}
 use Rattle.protocol.specs.declared.AuthMethod.{AuthMethod}
 use Rattle.protocol.specs.declared.AuthMethod.the-variants.{NoAuth, UserPass}
 use Rattle.protocol.specs.Host.{strip}

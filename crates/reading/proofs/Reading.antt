@@ -2,13 +2,12 @@
 use Prim.Native.Nat.{ℕ, _+_, _-_, _≤_, _<_, min}
 use native.Mathlib.Nat.{zero-add}
 use native.Mathlib.Omega.{arith}
-use mathlib.Core.Path.{_≡_, refl, ap, sym, _∙_}
-use mathlib.Core.Bool.{Bool, true, false}
+use mathlib.Core.Path.{_≡_, ap, sym, _∙_}
+use mathlib.Core.Bool.{true}
 use mathlib.Core.List.{List, _++_}
-use lib.ListN.{length, take, drop, length-append, length-take, length-drop, drop-of-length-le}
-use lib.Seq.{take-append-add, drop-append-add, drop-append-le, take-all, drop-length, getD-take}
-use lib.Dec.{leb, lit≤}
-use borrow.Author.Tests.{leb-true, leb-false}
+use lib.ListN.{length, take, drop, length-append, length-take, length-drop}
+use lib.Seq.{take-append-add, drop-append-add, drop-append-le, getD-take}
+use lib.Dec.{lit≤}
 use Rattle.protocol.specs.declared.Reply.{Reply}
 use Rattle.protocol.specs.declared.Decision.{Decision}
 use Rattle.protocol.specs.Bytes.{byte}
@@ -17,21 +16,16 @@ use Rattle.protocol.proofs.Replies.{first-262}
 use Rattle.wire.specs.declared.Written.{Written}
 use Rattle.wire.specs.Written.{overwrite, Wrote, Writes}
 use Rattle.wire.proofs.Laws.{fitted, wrote-start, wrote-length, then}
-
-take-min : (n : ℕ) (l : List ℕ) → take (min (length l) n) l ≡ take n l
-take-min n l = go (leb (length l) n) refl
-  where
-    go : (b : Bool) → leb (length l) n ≡ b → take (min (length l) n) l ≡ take n l
-    go true e = let h = leb-true (length l) n e in take-all (min (length l) n) l (omega arith) ∙ sym (take-all n l h)
-    go false e = let h = leb-false (length l) n e in let z : min (length l) n ≡ n = omega arith in rw z
+use Rattle.wire.proofs.Parts.{take-min, part-from}
 
 pub take-least : (n : ℕ) (l : List ℕ) → length l ≡ 261 → take (min n 261) l ≡ take n l
-take-least n l h = let z : min n 261 ≡ min (length l) n = omega arith in ap (λ (k : ℕ). take k l) z ∙ take-min n l
+take-least n l h = rw (← h) (take-min n l)
 
 across : (h p : List ℕ) → length h ≤ 262 → h ++ take (min (length p) (262 - length h)) p ≡ take 262 (h ++ p)
 across h p l =
     let z : 262 ≡ length h + (262 - length h) = omega arith in
-    ap (λ (t : List ℕ). h ++ t) (take-min (262 - length h) p) ∙ sym (ap (λ (n : ℕ). take n (h ++ p)) z ∙ take-append-add h p (262 - length h))
+    let swap : min (length p) (262 - length h) ≡ min (262 - length h) (length p) = omega arith in
+    ap (λ (t : List ℕ). h ++ t) (ap (λ (n : ℕ). take n p) swap ∙ take-min (262 - length h) p) ∙ sym (ap (λ (n : ℕ). take n (h ++ p)) z ∙ take-append-add h p (262 - length h))
 
 module _ (h p : List ℕ) (m : ℕ) (e : m ≡ min (length p) (262 - length h)) (l : length h ≤ 261) where
   pub part-long : m ≡ length (take m p)
@@ -60,14 +54,6 @@ pub decided-first : (e : Reply) (x : Decision) (bs cs : List ℕ) → cs ≡ tak
 decided-first e x bs cs c d y =
     let z : byte cs 4 ≡ byte bs 4 = rw c (getD-take 262 bs 4 0 (lit≤ tt)) in
     (d ∙ ap (decide e) c ∙ first-262 e bs (omega arith), omega arith)
-
--- ---- from a place on
-
-pub part-from : (l : List ℕ) (n : ℕ) → take (length l - n) (drop n l) ≡ drop n l
-part-from l n = take-all (length l - n) (drop n l) (rw (length-drop n l) (omega arith))
-
-pub part-past : (l : List ℕ) (n : ℕ) → length l ≤ n → take (length l - length l) (drop (length l) l) ≡ drop n l
-part-past l n h = part-from l (length l) ∙ drop-length l ∙ sym (drop-of-length-le l h)
 
 -- ---- from a place of held bytes and a piece
 

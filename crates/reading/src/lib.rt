@@ -1,7 +1,7 @@
 // A delivery: replies read from the held bytes and the piece, one after the other, with what they make due sent in between.
 ghost use mathlib.Core.Path.{_≡_};
 ghost use mathlib.Core.List.{_++_};
-ghost use Prim.Native.Nat.{_+_, _-_, _≤_, _<_, min};
+ghost use Prim.Native.Nat.{_+_, _-_, _≤_, _<_};
 ghost use lib.ListN.{length, drop};
 ghost use Rattle.protocol.specs.Bytes.{byte};
 ghost use Rattle.protocol.specs.Replies.{decide};
@@ -14,17 +14,11 @@ pub fn read_reply(reply: Reply, bytes: &[u8]) -> Decision
     ensures { λ r. ⌜ (r ≡ decide reply (now (bytes .entry))) × (byte (now (bytes .entry)) 4 ≤ 255) ⌝ }
 {
     match reply {
-        Reply::NegotiationRes(sent) => replies::v5::read_negotiation_res(bytes, sent),
-        Reply::AuthenticationRes => replies::v5::read_authentication_res(bytes),
-        Reply::ProxyRes => replies::v5::read_proxy_res(bytes),
-        Reply::Response => replies::v4::read_response(bytes),
+        Reply::NegotiationRes(sent) => replies_v5::read_negotiation_res(bytes, sent),
+        Reply::AuthenticationRes => replies_v5::read_authentication_res(bytes),
+        Reply::ProxyRes => replies_v5::read_proxy_res(bytes),
+        Reply::Response => replies_v4::read_response(bytes),
     }
-}
-
-pub fn least(a: usize, b: usize) -> usize
-    ensures { λ r. ⌜ r ≡ min a b ⌝ }
-{
-    if a < b { a } else { b }
 }
 
 // A reply on held bytes and then a piece: the first 262 decide it.
@@ -34,7 +28,7 @@ fn read_across(reply: Reply, held: &[u8], piece: &[u8]) -> Decision
 {
     let mut buf = [0u8; 262];
     let n = held.len();
-    let m = least(piece.len(), 262 - n);
+    let m = wire::least(piece.len(), 262 - n);
     wire::put(&mut buf, 0, held);
     wire::put(&mut buf, n, &piece[..m]);
     read_reply(reply, &buf[..n + m])

@@ -16,18 +16,19 @@ use Rattle.protocol.specs.declared.SocksError.the-variants.{ShortOutput, Unexpe
 use Rattle.protocol.specs.Client.{talkAt, client}
 use Rattle.wire.specs.Written.{overwrite, Wrote}
 use Rattle.wire.proofs.Laws.{wrote-length}
-use Rattle.turns.specs.declared.Stage.{Stage}
-use Rattle.turns.specs.declared.Stage.the-variants.{Awaiting, Open, Failed}
-use Rattle.turns.specs.declared.Kept.{Kept}
+use Rattle.sending.specs.declared.Stage.{Stage}
+use Rattle.sending.specs.declared.Stage.the-variants.{Awaiting, Open, Failed}
+use Rattle.sending.specs.declared.Kept.{Kept}
 use Rattle.session.specs.declared.Session.{Session}
 use Rattle.session.specs.declared.Delivered.{Delivered}
-use Rattle.turns.specs.Stages.{SideSession, requestsOf, viewAt}
+use Rattle.sending.specs.Stages.{SideSession, requestsOf, viewAt}
 use Rattle.session.specs.Session.{sideOf, heldBytes, view, packed, outcome}
-use Rattle.turns.specs.Stages.{SideFed}
+use Rattle.sending.specs.Stages.{SideFed}
 use Rattle.session.specs.Calls.{refusal, delivered, Delivers, endedBy, moves, takes, deliver, end}
-use Rattle.turns.specs.Steps.{rank, heldCount, Worked}
+use Rattle.sending.specs.Stages.{rank}
+use Rattle.turns.specs.Turns.{heldCount, Worked}
 use Rattle.turns.proofs.Steps.{held-count}
-use Rattle.turns.proofs.Turning.{awaits}
+use Rattle.sending.proofs.Stages.{awaits}
 use Rattle.talk.specs.Talk.{feed, onward, heldBy, isOver}
 
 same-delivered : {a : code.Answer} {u u′ n n′ : ℕ} {s s′ : Session} → u ≡ u′ → n ≡ n′ → s ≡ s′

@@ -14,8 +14,8 @@ use Rattle.protocol.specs.declared.Answer.the-variants.{Accepted, Refused}
 use Rattle.protocol.specs.AddressReading.{Destination, ipv4, ipv6, domain}
 use Rattle.protocol.specs.Opening.{V5, V4, check5, check4, Opening, v5, v4, noAuth, userPass, opening5, opening4}
 use Rattle.protocol.specs.Client.{side, begun}
-use Rattle.turns.specs.declared.Stage.the-variants.{Failed}
-use Rattle.turns.specs.declared.Kept.{Kept}
+use Rattle.sending.specs.declared.Stage.the-variants.{Failed}
+use Rattle.sending.specs.declared.Kept.{Kept}
 use Rattle.session.specs.declared.Session.{Session}
 use Rattle.session.specs.declared.Opened.{Opened}
 use Rattle.session.specs.declared.Delivered.{Delivered}
@@ -23,7 +23,7 @@ use Rattle.session.specs.declared.Ended.{Ended}
 use Rattle.session.specs.Session.{sideOf, view, packed}
 use Rattle.talk.specs.Talk.{failed, ended, feed, onward, heldBy, isOver, reached}
 use Rattle.talk.specs.Tunnel.{Answer, Receiver}
-use Rattle.turns.specs.Stages.{SideFed}
+use Rattle.sending.specs.Stages.{SideFed}
 
 abbrev pub Call : Type 0
 Call = Answer Session code.Answer

@@ -6,7 +6,7 @@ use Rattle.protocol.specs.declared.Outcome.{Outcome}
 use Rattle.protocol.specs.Client as client
 use Rattle.session.specs.declared.Session.{Session}
 use Rattle.talk.specs.Talk as talk
-use Rattle.turns.specs.Stages.{SideSession, requestsOf, viewAt, stageOf}
+use Rattle.sending.specs.Stages.{SideSession, requestsOf, viewAt, stageOf}
 
 abbrev pub sideOf : Session → talk.Side
 sideOf s = client.client (requestsOf (s .kept))

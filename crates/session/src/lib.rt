@@ -5,16 +5,16 @@ ghost use mathlib.Core.List.{[], _++_};
 ghost use Prim.Native.Nat.{_+_, _≤_};
 ghost use lib.ListN.{length, drop};
 ghost use Rattle.session.specs.Calls.{Delivers, delivered, refusal, moves, takes, deliver, endedBy, end};
-ghost use Rattle.turns.specs.declared.Stage.the-variants as Stage;
+ghost use Rattle.sending.specs.declared.Stage.the-variants as Stage;
 ghost use Rattle.session.specs.Session.{sideOf, heldBytes, view, packed, outcome};
-ghost use Rattle.turns.specs.Stages.{viewAt};
+ghost use Rattle.sending.specs.Stages.{viewAt};
 ghost use Rattle.talk.specs.Talk.{onward, heldBy};
 use protocol::Answer;
 use protocol::Outcome;
 use protocol::Reply;
 use protocol::SocksError;
-use turns::Kept;
-use turns::Stage;
+use sending::Kept;
+use sending::Stage;
 use turns::Turn;
 
 // The first held bytes of the hold are the undecided rest of a reply.
@@ -91,7 +91,7 @@ impl Session {
             };
         }
         let hold = self.hold;
-        let n = reading::least(self.held, 261);
+        let n = wire::least(self.held, 261);
         self.take_piece(reply, &hold[..n], piece, out)
     }
 
@@ -179,15 +179,4 @@ impl Session {
             Stage::Failed(error) => Outcome::Failed(error),
         }
     }
-}
-
-// The part of a piece after so many bytes: what a delivery did not use.
-pub fn rest(piece: &[u8], count: usize) -> &[u8]
-    ensures { λ r. ⌜ now r ≡ drop count (now (piece .entry)) ⌝ }
-{
-    if piece.len() <= count {
-        let end = piece.len();
-        return &piece[end..];
-    }
-    &piece[count..]
 }

@@ -13,8 +13,8 @@ use Rattle.protocol.specs.AddressReading.{Destination, ipv4, ipv6, domain}
 use Rattle.protocol.specs.Requests.{authenticationReq, proxyReq, keptDestination}
 use Rattle.protocol.specs.Opening.{V5, V4, check5, check4, Opening, v5, v4, noAuth, userPass, opening5, opening4}
 use Rattle.protocol.specs.Client as client
-use Rattle.turns.specs.declared.Kept.{Kept}
-use Rattle.turns.specs.Stages.{requestsOf}
+use Rattle.sending.specs.declared.Kept.{Kept}
+use Rattle.sending.specs.Stages.{requestsOf}
 use Rattle.session.specs.Calls.{addressOf, keptWith, keptBy, emptySession, begins, openBy, open5, open4, receiver}
 use Rattle.socks.specs.Demand3.{Demand3}
 use Rattle.openings.proofs.KeptBy.{kept-by}

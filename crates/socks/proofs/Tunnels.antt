@@ -15,7 +15,7 @@ use Rattle.protocol.specs.Client as client
 use Rattle.protocol.proofs.Client.{client-lawful, begun-shaped, machine-feed, used-feed}
 use Rattle.protocol.proofs.Sequences.{open-just, open-one}
 use Rattle.session.specs.declared.Session.{Session}
-use Rattle.turns.specs.Stages.{SideSession, requestsOf}
+use Rattle.sending.specs.Stages.{SideSession, requestsOf}
 use Rattle.session.specs.Session.{view, packed, outcome}
 use Rattle.session.specs.Calls.{refusal, takes, deliver, receiver}
 use Rattle.socks.specs.Demand3.{Alike, Demand3}

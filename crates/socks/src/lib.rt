@@ -1,12 +1,12 @@
 // The client's side of a SOCKS handshake: a session that is opened, fed with pieces, and ended.
 pub mod errors;
+pub mod v4;
+pub mod v5;
 
-pub use openings::v4;
-pub use openings::v5;
+pub use sending::Kept;
+pub use sending::Stage;
 pub use session::Delivered;
 pub use session::Ended;
 pub use session::Opened;
 pub use session::Session;
-pub use session::rest;
-pub use turns::Kept;
-pub use turns::Stage;
+pub use wire::rest;

@@ -19,11 +19,13 @@ use Rattle.protocol.specs.declared.Verdict.the-variants.{Good, Bad}
 use Rattle.protocol.specs.declared.Decision.the-variants.{Undecided, Decided}
 use Rattle.protocol.specs.Replies.{decide}
 use Rattle.protocol.specs.Client.{Kept, limited, due, afterMethod, talkAt, client}
-use Rattle.turns.specs.declared.Stage.{Stage}
-use Rattle.turns.specs.declared.Stage.the-variants.{Awaiting, Open, Failed}
-use Rattle.turns.specs.Stages.{viewAt}
-use Rattle.turns.specs.Stages.{SideFed}
-use Rattle.turns.specs.Steps.{dueIf, dueAt, dueMethod, dueAfter, onStage, rank, sentBefore, heldCount}
+use Rattle.sending.specs.declared.Stage.{Stage}
+use Rattle.sending.specs.declared.Stage.the-variants.{Awaiting, Open, Failed}
+use Rattle.sending.specs.Stages.{viewAt}
+use Rattle.sending.specs.Stages.{SideFed}
+use Rattle.sending.specs.Due.{dueIf, dueAt, dueMethod, dueAfter, sentBefore}
+use Rattle.turns.specs.Turns.{onStage, heldCount}
+use Rattle.sending.specs.Stages.{rank}
 use Rattle.talk.specs.Talk.{done, failed, stop, send, ended, waiting, unmoved, sending, moving, feed, heldBy}
 use Rattle.talk.proofs.Feed.{same-fed}
 
@@ -157,17 +159,6 @@ module _ (c : Kept) (sent : List ℕ) where
   room-after AuthenticationRes h = at-room (c .optimistic) (3 + length (c .authentication)) (c .proxy) ProxyRes (omega arith) (omega arith) (omega arith) (λ l. omega arith)
   room-after ProxyRes h = rw append-nil h
   room-after Response h = rw append-nil h
-
-pub sent-small : (c : Kept) (e : Reply) → sentBefore c (Awaiting e) ≤ 265
-sent-small c (NegotiationRes m) = omega arith
-sent-small c AuthenticationRes = omega arith
-sent-small c ProxyRes = omega arith
-sent-small c Response = omega arith
-
-pub stage-small : (c : Kept) (s : Stage) → sentBefore c s ≤ 265
-stage-small c (Awaiting e) = sent-small c e
-stage-small c Open = le-refl _
-stage-small c (Failed x) = le-refl _
 
 pub held-count : (s : Stage) (rest : List ℕ) → length (heldBy (viewAt s rest)) ≡ heldCount s (length rest)
 held-count (Awaiting e) rest = refl

@@ -19,13 +19,16 @@ use Rattle.protocol.specs.Client.{Kept}
 use Rattle.protocol.proofs.Replies.{decided-within, undecided-by}
 use Rattle.wire.specs.Written.{Wrote}
 use Rattle.wire.proofs.Laws.{then}
-use Rattle.turns.specs.declared.Stage.{Stage}
-use Rattle.turns.specs.declared.Stage.the-variants.{Awaiting, Open, Failed}
-use Rattle.turns.specs.Stages.{viewAt}
-use Rattle.turns.specs.Stages.{SideFed}
-use Rattle.turns.specs.Steps.{dueAfter, dueJudged, isGood, goesOn, onStage, rank, sentBefore, Sends, Turns, Worked}
+use Rattle.sending.specs.declared.Stage.{Stage}
+use Rattle.sending.specs.declared.Stage.the-variants.{Awaiting, Open, Failed}
+use Rattle.sending.specs.Stages.{viewAt}
+use Rattle.sending.specs.Stages.{SideFed}
+use Rattle.sending.specs.Due.{dueAfter, dueJudged, sentBefore, Sends}
+use Rattle.turns.specs.Turns.{isGood, goesOn, onStage, Turns, Worked}
+use Rattle.sending.specs.Stages.{rank}
 use Rattle.turns.proofs.Steps.{Turning, turn-start, turn-good, turn-bad, turn-waits, turn-open, turn-failed, rank-falls, room-after}
-use Rattle.turns.proofs.Sending.{wrote-none}
+use Rattle.sending.proofs.Sending.{wrote-none}
+use Rattle.sending.proofs.Stages.{awaits}
 use Rattle.talk.specs.Talk.{heldBy}
 
 clash : true ≡ false → ⊥
@@ -63,12 +66,6 @@ module _ (c : Kept) (e : Reply) (bytes : List ℕ) (place : ℕ) (out : List ℕ
 
   pub decided-inside : {d : Decision} {n : ℕ} {v : Verdict} → d ≡ decide e (drop place bytes) → d ≡ Decided n v → place ≤ length bytes → place + n ≤ length bytes
   decided-inside {d} {n} {v} p q h = omega (arith, decided-within e (drop place bytes) n v (sym p ∙ q), length-drop place bytes)
-
-pub awaits : (e : Reply) → rank (Awaiting e) ≡ 0 → ⊥
-awaits (NegotiationRes m) z = omega arith
-awaits AuthenticationRes z = omega arith
-awaits ProxyRes z = omega arith
-awaits Response z = omega arith
 
 pub turn-settled : (c : Kept) (stage : Stage) (bytes : List ℕ) (place : ℕ) (out : List ℕ) (at : ℕ) → rank stage ≡ 0 → at ≤ length out → Turns c stage bytes place out at stage place at false out
 turn-settled c (Awaiting e) bytes place out at z h = absurd (awaits e z)

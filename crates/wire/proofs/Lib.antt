@@ -1,3 +1,2 @@
 pub mod Laws
-pub mod Held
-pub mod Takes
+pub mod Parts

@@ -2,15 +2,13 @@
 ghost use mathlib.Core.Path.{_≡_};
 ghost use mathlib.Core.Bool.{true};
 ghost use mathlib.Core.List.{[], _∷_};
-ghost use Prim.Native.Nat.{_+_, _≤_, _<_};
-ghost use lib.ListN.{length};
+ghost use Prim.Native.Nat.{_+_, _≤_, _<_, min};
+ghost use lib.ListN.{length, drop};
 ghost use lib.Dec.{leb};
 ghost use Rattle.protocol.specs.Bytes.{two};
 ghost use Rattle.protocol.specs.Requests.{methodByte};
 ghost use Rattle.wire.specs.Written.{Wrote, Writes};
 use protocol::AuthMethod;
-
-pub mod reader;
 
 // What a writer answers: the place behind what it wrote; or that it does not fit, with nothing written.
 pub enum Written {
@@ -92,4 +90,22 @@ pub fn wide(b: u8) -> usize
     ensures { λ r. ⌜ r ≡ b ⌝ }
 {
     b as usize
+}
+
+// The smaller of two counts.
+pub fn least(a: usize, b: usize) -> usize
+    ensures { λ r. ⌜ r ≡ min a b ⌝ }
+{
+    if a < b { a } else { b }
+}
+
+// The part of a piece after so many bytes: what a delivery did not use.
+pub fn rest(piece: &[u8], count: usize) -> &[u8]
+    ensures { λ r. ⌜ now r ≡ drop count (now (piece .entry)) ⌝ }
+{
+    if piece.len() <= count {
+        let end = piece.len();
+        return &piece[end..];
+    }
+    &piece[count..]
 }

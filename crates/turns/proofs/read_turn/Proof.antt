@@ -1,8 +1,8 @@
 use native.Mathlib.Omega.{arith}
 use mathlib.Core.List.{_++_}
 use lib.ListN.{length-append}
-use Rattle.turns.specs.Stages.{requestsOf}
-use Rattle.turns.proofs.Steps.{sent-small}
+use Rattle.sending.specs.Stages.{requestsOf}
+use Rattle.sending.proofs.Stages.{sent-small}
 use Rattle.turns.proofs.Turning.{turn-undecided, turn-decided, decided-inside}
 use borrow.Author.Needs.{needs}
 use Rattle.turns.proofs.read_turn.Statement.{statement}

@@ -1,11 +1,12 @@
 use native.Mathlib.Omega.{arith}
 use mathlib.Core.Path.{ap, refl}
 use mathlib.Core.List.{_++_}
-use Rattle.turns.specs.declared.Stage.{Stage}
-use Rattle.turns.specs.declared.Stage.the-variants.{Failed}
-use Rattle.turns.specs.Stages.{requestsOf}
-use Rattle.turns.specs.Steps.{rank, sentBefore}
-use Rattle.turns.proofs.Steps.{stage-small}
+use Rattle.sending.specs.declared.Stage.{Stage}
+use Rattle.sending.specs.declared.Stage.the-variants.{Failed}
+use Rattle.sending.specs.Stages.{requestsOf}
+use Rattle.sending.specs.Stages.{rank}
+use Rattle.sending.specs.Due.{sentBefore}
+use Rattle.sending.proofs.Stages.{stage-small}
 use Rattle.turns.proofs.Turning.{turn-settled}
 use borrow.Author.Needs.{needs}
 use Rattle.turns.proofs.turn_on.Statement.{statement}

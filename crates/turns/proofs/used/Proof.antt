@@ -1,8 +1,8 @@
 use native.Mathlib.Omega.{arith}
 use mathlib.Core.Path.{ap}
 use Prim.Native.Nat.{_+_, _-_}
-use Rattle.turns.specs.declared.Stage.{Stage}
-use Rattle.turns.specs.Steps.{heldCount}
+use Rattle.sending.specs.declared.Stage.{Stage}
+use Rattle.turns.specs.Turns.{heldCount}
 use borrow.Author.Needs.{needs}
 use Rattle.turns.proofs.used.Statement.{statement}
 use Rattle.turns.proofs.used.Tie as tie

@@ -2,8 +2,8 @@ use borrow.Author.Needs.{needs}
 use native.Mathlib.Omega.{arith}
 use mathlib.Core.List.{_++_}
 use lib.ListN.{length-append}
-use Rattle.turns.specs.Stages.{requestsOf}
-use Rattle.turns.specs.Steps.{onStage}
+use Rattle.sending.specs.Stages.{requestsOf}
+use Rattle.turns.specs.Turns.{onStage}
 use Rattle.wire.proofs.Laws.{wrote-length}
 use Rattle.turns.proofs.Turning.{Going, going-start, going-on, going-last, going-out}
 use Rattle.turns.proofs.work.Statement.{statement}

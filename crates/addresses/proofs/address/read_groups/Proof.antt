@@ -5,7 +5,7 @@ use borrow.Author.Needs.{needs}
 use Rattle.protocol.specs.declared.Follows.{Follows}
 use Rattle.protocol.specs.declared.Follows.the-variants.{Colons, Colon}
 use Rattle.addresses.proofs.Lists.{stored}
-use Rattle.addresses.proofs.Runs.{within-small, digits-within}
+use Rattle.digits.proofs.Runs.{within-small, digits-within}
 use Rattle.addresses.proofs.Colons.{Rows, no-rows, rows-end, GroupTurn, group-turn}
 use Rattle.addresses.proofs.address.read_groups.Statement.{statement}
 use Rattle.addresses.proofs.address.read_groups.Tie as tie

@@ -10,7 +10,7 @@ use borrow.Author.Needs.{needs}
 use borrow.Author.Tests.{eq-eqb, ne-eqb, not-true, not-false}
 use Rattle.protocol.specs.AddressReading.{ahead, ipv4Of}
 use Rattle.addresses.proofs.Lists.{from, four-stored}
-use Rattle.addresses.proofs.Runs.{digits-within}
+use Rattle.digits.proofs.Runs.{digits-within}
 use Rattle.addresses.proofs.Dots.{Numbers, no-numbers, DotTurn, dot-turn, dots-end}
 use Rattle.addresses.proofs.address.read_ipv4.Statement.{statement}
 use Rattle.addresses.proofs.address.read_ipv4.Tie as tie

@@ -1,10 +1,10 @@
-use Rattle.turns.specs.Steps.{rank}
+use Rattle.sending.specs.Stages.{rank}
 use native.Mathlib.Omega.{arith}
 use mathlib.Core.Path.{ap, _∙_}
 use mathlib.Core.List.{_++_}
 use lib.ListN.{length, drop, length-drop, length-append}
-use Rattle.turns.specs.declared.Stage.{Stage}
-use Rattle.turns.specs.Stages.{viewAt}
+use Rattle.sending.specs.declared.Stage.{Stage}
+use Rattle.sending.specs.Stages.{viewAt}
 use Rattle.session.proofs.Deliveries.{packed-waits, packed-settled, packed-failed}
 use Rattle.talk.specs.Talk.{heldBy}
 use borrow.Author.Needs.{needs}

@@ -1,5 +1,5 @@
 use mathlib.Core.Path.{ap}
-use Rattle.turns.specs.Steps.{rank}
+use Rattle.sending.specs.Stages.{rank}
 use Rattle.session.proofs.Deliveries.{deliver-settled}
 use borrow.Author.Needs.{needs}
 use Rattle.session.proofs.Session.deliver.Statement.{statement}

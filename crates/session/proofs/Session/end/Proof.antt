@@ -1,7 +1,7 @@
 use mathlib.Core.Path.{ap, _∙_}
 use Rattle.protocol.specs.declared.Answer.the-variants.{Accepted}
 use Rattle.session.specs.declared.Session.{Session}
-use Rattle.turns.specs.Steps.{rank}
+use Rattle.sending.specs.Stages.{rank}
 use Rattle.session.proofs.Deliveries.{end-settled, end-waits}
 use borrow.Author.Needs.{needs}
 use Rattle.session.proofs.Session.end.Statement.{statement}

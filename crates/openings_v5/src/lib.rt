@@ -1,0 +1,231 @@
+// Opening a session over SOCKS5.
+ghost use mathlib.Core.Path.{_≡_};
+ghost use mathlib.Core.Bool.{false, cond};
+ghost use mathlib.Core.List.{[]};
+ghost use Prim.Native.Nat.{_+_, _≤_};
+ghost use lib.ListN.{length};
+ghost use Rattle.protocol.specs.Requests.{negotiationReq};
+ghost use Rattle.protocol.specs.declared.Reply.the-variants as Reply;
+ghost use Rattle.wire.specs.Written.{Wrote};
+ghost use Rattle.sending.specs.Stages.{requestsOf};
+ghost use Rattle.sending.specs.Due.{dueAt, Sends};
+ghost use Rattle.openings_v5.specs.Begin.{followBy, dueFollow, firstStage, dueBegin, plainly};
+ghost use Rattle.lookup.specs.Chosen.{recordsOf};
+ghost use Rattle.openings.specs.Accepted.{methodOf, Short5};
+ghost use Rattle.session.specs.Calls.{keptBy, openBy, Opens, open5};
+ghost use Rattle.protocol.specs.Opening.{check5, opening5};
+ghost use Rattle.protocol.specs.declared.Answer.the-variants as Answer;
+use checks::checks::check5;
+use checks::lookups::wanted5;
+use lookup::Lookup;
+use lookup::choose;
+use protocol::Answer;
+use protocol::AuthMethod;
+use protocol::Port;
+use protocol::Record;
+use protocol::Reply;
+use protocol::SocksConfig;
+use protocol::SocksError;
+use sending::Due;
+use sending::Kept;
+use sending::Stage;
+use sending::authentication_len;
+use sending::send_authentication;
+use sending::send_proxy;
+use session::Opened;
+use wire::Written;
+
+fn greet(method: AuthMethod, out: &mut [u8]) -> usize
+    requires { ⌜ 262 ≤ length (now out) ⌝ }
+    ensures { λ r. ⌜ (Wrote (now (out .entry)) 0 (negotiationReq method) r (now (out .exit))) × (r ≤ 3) ⌝ }
+{
+    match requests_v5::write_negotiation_req(out, 0, method) {
+        Written::At(next) => next,
+        Written::WouldOverflow => 0,
+    }
+}
+
+// AuthenticationReq and ProxyReq behind a greeting, each if it is within the send limit.
+fn follow_authentication(kept: Kept, out: &mut [u8], at: usize) -> Due
+    requires { ⌜ (kept .optimistic ≡ false) × (at ≤ 3) × (262 ≤ length (now out)) ⌝ }
+    ensures { λ r. ⌜ Sends (followBy (dueAt false 3 (requestsOf kept .authentication) Reply.AuthenticationRes .stage) (dueAt false 3 (requestsOf kept .authentication) Reply.AuthenticationRes) (dueAt false (3 + length (requestsOf kept .authentication)) (requestsOf kept .proxy) Reply.ProxyRes)) (now (out .entry)) at (r .stage) (r .sent) (now (out .exit)) ⌝ }
+{
+    let due = send_authentication(kept, out, at);
+    let stage = due.stage;
+    match stage {
+        Stage::Awaiting(reply) => {
+            let before = 3 + authentication_len(kept);
+            send_proxy(kept, before, out, due.sent)
+        }
+        Stage::Open => Due {
+            stage: stage,
+            sent: due.sent,
+        },
+        Stage::Failed(error) => Due {
+            stage: stage,
+            sent: due.sent,
+        },
+    }
+}
+
+// What follows a greeting in one go.
+fn follow(kept: Kept, method: AuthMethod, out: &mut [u8], at: usize) -> Due
+    requires { ⌜ (kept .optimistic ≡ false) × (at ≤ 3) × (262 ≤ length (now out)) ⌝ }
+    ensures { λ r. ⌜ Sends (dueFollow (requestsOf kept) method) (now (out .entry)) at (r .stage) (r .sent) (now (out .exit)) ⌝ }
+{
+    match method {
+        AuthMethod::NoAuth => send_proxy(kept, 3, out, at),
+        AuthMethod::UserPass => follow_authentication(kept, out, at),
+        AuthMethod::NoneAcceptable => Due {
+            stage: Stage::Failed(SocksError::MethodMismatch),
+            sent: at,
+        },
+    }
+}
+
+fn plainly(kept: Kept) -> Kept
+    ensures { λ r. ⌜ r ≡ plainly kept ⌝ }
+{
+    let address = kept.address;
+    let user = kept.user;
+    let password = kept.password;
+    Kept {
+        optimistic: false,
+        address: address,
+        user: user,
+        user_len: kept.user_len,
+        password: password,
+        password_len: kept.password_len,
+    }
+}
+
+fn first_stage(method: AuthMethod, stage: Stage) -> Stage
+    ensures { λ r. ⌜ r ≡ firstStage method stage ⌝ }
+{
+    match stage {
+        Stage::Awaiting(reply) => Stage::Awaiting(Reply::NegotiationRes(method)),
+        Stage::Open => Stage::Open,
+        Stage::Failed(error) => Stage::Failed(error),
+    }
+}
+
+// The greeting, and optimistically all that follows it.
+fn begin(kept: Kept, method: AuthMethod, out: &mut [u8]) -> Due
+    requires { ⌜ 262 ≤ length (now out) ⌝ }
+    ensures { λ r. ⌜ Sends (dueBegin (kept .optimistic) method (dueFollow (requestsOf kept) method)) (now (out .entry)) 0 (r .stage) (r .sent) (now (out .exit)) ⌝ }
+{
+    let at = greet(method, out);
+    if kept.optimistic {
+        let due = follow(plainly(kept), method, out, at);
+        let stage = due.stage;
+        return Due {
+            stage: first_stage(method, stage),
+            sent: due.sent,
+        };
+    }
+    Due {
+        stage: Stage::Awaiting(Reply::NegotiationRes(method)),
+        sent: at,
+    }
+}
+
+fn method_of(auth: bool) -> AuthMethod
+    ensures { λ r. ⌜ r ≡ methodOf auth ⌝ }
+{
+    if auth {
+        AuthMethod::UserPass
+    } else {
+        AuthMethod::NoAuth
+    }
+}
+
+// A credential, if credentials are given.
+fn credential(auth: bool, src: &[u8]) -> &[u8]
+    ensures { λ r. ⌜ now r ≡ cond auth (now (src .entry)) [] ⌝ }
+{
+    if auth {
+        return src;
+    }
+    &src[..0]
+}
+
+// What is kept of an accepted opening.
+fn keep(
+    config: SocksConfig,
+    host: &[u8],
+    port: Port,
+    user: &[u8],
+    password: &[u8],
+    chosen: Lookup,
+) -> Kept
+    requires { ⌜ Short5 (record { config = config; host = now host; port = port; user = now user; password = now password; records = recordsOf chosen }) ⌝ }
+    ensures { λ r. ⌜ r ≡ keptBy (opening5 (record { config = config; host = now (host .entry); port = port; user = now (user .entry); password = now (password .entry); records = recordsOf chosen })) ⌝ }
+{
+    let address = openings::asked(host, openings::port_number(port), config.local_dns, chosen);
+    openings::keep(
+        config.optimistic,
+        address,
+        credential(config.proxy_auth, user),
+        credential(config.proxy_auth, password),
+    )
+}
+
+// An accepted opening: what it keeps, and what it sends.
+fn accept(
+    config: SocksConfig,
+    host: &[u8],
+    port: Port,
+    user: &[u8],
+    password: &[u8],
+    chosen: Lookup,
+    out: &mut [u8],
+) -> Opened
+    requires { ⌜ check5 (length (now out)) (record { config = config; host = now host; port = port; user = now user; password = now password; records = recordsOf chosen }) ≡ Answer.Accepted ⌝ }
+    ensures { λ r. ⌜ Opens (openBy Answer.Accepted (opening5 (record { config = config; host = now (host .entry); port = port; user = now (user .entry); password = now (password .entry); records = recordsOf chosen })) (now (out .entry))) r (now (out .exit)) ⌝ }
+{
+    let kept = keep(config, host, port, user, password, chosen);
+    let due = begin(kept, method_of(config.proxy_auth), out);
+    let stage = due.stage;
+    Opened {
+        answer: Answer::Accepted,
+        sent: due.sent,
+        session: openings::fresh(stage, kept),
+    }
+}
+
+// An opening with the record chosen.
+fn open_chosen(
+    config: SocksConfig,
+    host: &[u8],
+    port: Port,
+    user: &[u8],
+    password: &[u8],
+    chosen: Lookup,
+    out: &mut [u8],
+) -> Opened
+    ensures { λ r. ⌜ Opens (open5 (record { config = config; host = now (host .entry); port = port; user = now (user .entry); password = now (password .entry); records = recordsOf chosen }) (now (out .entry))) r (now (out .exit)) ⌝ }
+{
+    let answer = check5(config, host, port, user, password, chosen, out.len());
+    match answer {
+        Answer::Accepted => accept(config, host, port, user, password, chosen, out),
+        Answer::Refused(error) => openings::refuse(error),
+    }
+}
+
+// Opens a session over SOCKS5: what it sends stands at the output's start. A refused opening leaves the output as it was.
+// Of the lookup's answers the first record is taken, and none is read unless a name is to be looked up.
+pub fn open(
+    config: SocksConfig,
+    host: &[u8],
+    port: Port,
+    user: &[u8],
+    password: &[u8],
+    records: &[Record],
+    out: &mut [u8],
+) -> Opened
+    ensures { λ r. ⌜ Opens (open5 (record { config = config; host = now (host .entry); port = port; user = now (user .entry); password = now (password .entry); records = now (records .entry) }) (now (out .entry))) r (now (out .exit)) ⌝ }
+{
+    let most = wanted5(config, host);
+    let chosen = choose(records, most, false);
+    open_chosen(config, host, port, user, password, chosen, out)
+}

@@ -1,0 +1,4 @@
+pub mod Held
+pub mod Takes
+pub mod Came
+pub mod Returns

@@ -1,0 +1,49 @@
+use mathlib.Core.Path.{sym, _∙_}
+use borrow.Author.Needs.{needs}
+use Rattle.protocol.specs.Replies.{proxyAt, decide}
+use Rattle.reader.proofs.Came.{three-came, three-short}
+use Rattle.replies_v5.proofs.Returns.{head-passed, head-refused}
+use Rattle.reader.proofs.Returns.{undecided}
+use Rattle.replies_v5.proofs.read_proxy_res.Statement.{statement}
+use Rattle.replies_v5.proofs.read_proxy_res.Tie as tie
+
+three-at-requires : tie.Need-three-at-requires
+three-at-requires c κs = search needs
+
+head-allowed-requires : tie.Need-head-allowed-requires
+head-allowed-requires c κs = search needs
+
+type-at-requires : tie.Need-type-at-requires
+type-at-requires c κs =
+    let bs = c .before .before .before .before .before .args .bytes .now in
+    let p = c .before .before .before .three-at in
+    let k = three-came bs 0 (p .result) (p .ensures) (c .before .before .if1 .taken) in
+    (k .place, k .second)
+
+returns : tie.Need-returns
+unfolding decide
+returns c =
+    let bs = c .before .before .before .before .before .before .args .bytes .now in
+    let p = c .before .before .before .before .three-at in
+    let k = three-came bs 0 (p .result) (p .ensures) (c .before .before .before .if1 .taken) in
+    c .type-at .ensures ∙ head-passed bs (p .result) k (sym (c .before .before .head-allowed .ensures) ∙ c .before .if2 .taken)
+
+returns-2 : tie.Need-returns-2
+unfolding decide
+returns-2 c =
+    let bs = c .before .before .before .before .before .args .bytes .now in
+    let p = c .before .before .before .three-at in
+    let k = three-came bs 0 (p .result) (p .ensures) (c .before .before .if1 .taken) in
+    cc (k .place, head-refused bs (p .result) k (sym (c .before .head-allowed .ensures) ∙ c .if2 .left))
+
+returns-3 : tie.Need-returns-3
+unfolding decide proxyAt
+returns-3 c =
+    let bs = c .before .before .before .args .bytes .now in
+    let p = c .before .three-at in
+    undecided 3 bs _ (three-short bs 0 (p .result) (p .ensures) (c .if1 .left))
+
+pub read-proxy-res-spec : {M : Type 1} → statement M
+read-proxy-res-spec =
+    tie.close
+    (tie.spec three-at-requires head-allowed-requires type-at-requires returns returns-2 returns-3)

@@ -1,0 +1,54 @@
+use mathlib.Core.Path.{_≡_, sym, ap, _∙_}
+use mathlib.Core.Bool.{true}
+use mathlib.Core.List.{List}
+use Prim.Native.Nat.{ℕ}
+use borrow.Author.Needs.{needs}
+use Rattle.reader.specs.declared.Two.{Two}
+use Rattle.reader.specs.Reader.{twoAt}
+use Rattle.reader.proofs.Came.{CameTwo, two-came, two-short}
+use Rattle.replies_v5.proofs.Returns.{type-passed, type-refused}
+use Rattle.reader.proofs.Returns.{undecided}
+use Rattle.replies_v5.proofs.type_at.Statement.{statement}
+use Rattle.replies_v5.proofs.type_at.Tie as tie
+
+two-at-requires : tie.Need-two-at-requires
+two-at-requires c κs = search needs
+
+type-allowed-requires : tie.Need-type-allowed-requires
+type-allowed-requires c κs = search needs
+
+-- the two bytes behind the first three
+came : (bs : List ℕ) (at : ℕ) (p : Two) → at ≡ 3 → p ≡ twoAt bs at → p .came ≡ true → CameTwo bs 3 2 p
+came bs at p three e t = two-came bs 3 p (e ∙ ap (twoAt bs) three) t
+
+whole-at-requires : tie.Need-whole-at-requires
+whole-at-requires c κs =
+    let start = c .before .before .before .before .before in
+    let p = c .before .before .before .two-at in
+    let k = came (start .args .bytes .now) (start .args .at) (p .result) (start .pre .0) (p .ensures) (c .before .before .if1 .taken) in
+    (k .place, start .pre .1, k .first, k .second)
+
+returns : tie.Need-returns
+returns c =
+    let start = c .before .before .before .before .before .before in
+    let p = c .before .before .before .before .two-at in
+    let k = came (start .args .bytes .now) (start .args .at) (p .result) (start .pre .0) (p .ensures) (c .before .before .before .if1 .taken) in
+    c .whole-at .ensures ∙ type-passed (start .args .bytes .now) (p .result) k (sym (c .before .before .type-allowed .ensures) ∙ c .before .if2 .taken)
+
+returns-2 : tie.Need-returns-2
+returns-2 c =
+    let start = c .before .before .before .before .before in
+    let p = c .before .before .before .two-at in
+    let k = came (start .args .bytes .now) (start .args .at) (p .result) (start .pre .0) (p .ensures) (c .before .before .if1 .taken) in
+    cc (k .place, type-refused (start .args .bytes .now) (p .result) k (sym (c .before .type-allowed .ensures) ∙ c .if2 .left))
+
+returns-3 : tie.Need-returns-3
+returns-3 c =
+    let start = c .before .before .before in
+    let p = c .before .two-at in
+    undecided 5 (start .args .bytes .now) _ (two-short (start .args .bytes .now) 3 (p .result) (p .ensures ∙ ap (twoAt (start .args .bytes .now)) (start .pre .0)) (c .if1 .left))
+
+pub type-at-spec : {M : Type 1} → statement M
+type-at-spec =
+    tie.close
+    (tie.spec two-at-requires type-allowed-requires whole-at-requires returns returns-2 returns-3)

@@ -1,0 +1,34 @@
+use native.Mathlib.Omega.{arith}
+use mathlib.Core.Path.{refl}
+use Rattle.sending.specs.Stages.{requestsOf}
+use Rattle.sending.proofs.Stages.{sent-small}
+use Rattle.sending.proofs.Sending.{wrote-none}
+use borrow.Author.Needs.{needs}
+use Rattle.sending.proofs.send_judged.Statement.{statement}
+use Rattle.sending.proofs.send_judged.Tie as tie
+
+enum-told : tie.Need-enum-told
+enum-told c = search needs
+
+send-after-requires : tie.Need-send-after-requires
+send-after-requires c κs = search needs
+
+enum-known-verdict : tie.Need-enum-known-verdict
+enum-known-verdict c = search needs
+
+same-length : tie.Need-same-length
+same-length c = search needs
+
+returns : tie.Need-returns
+returns c = rw (c .before .before .before .before .enum-told .given .1) (c .before .before .send-after .ensures)
+
+returns-2 : tie.Need-returns-2
+returns-2 c =
+    let a = c .before .before .before .before .args in
+    let p = c .before .before .before .before .pre in
+    rw (c .before .verdict .given .1) (record { staged = refl; wrote = wrote-none (a .out .now) (a .at) (omega (arith, sent-small (requestsOf (a .kept)) (a .reply))) })
+
+pub send-judged-spec : {M : Type 1} → statement M
+send-judged-spec =
+    tie.close
+    (tie.spec enum-told send-after-requires enum-known-verdict same-length returns returns-2)

@@ -1,0 +1,2 @@
+// Opening a session over SOCKS4 and SOCKS4A.
+pub use openings_v4::open;
