@@ -7,7 +7,8 @@ ghost use lib.Dec.{ltb};
 ghost use Rattle.protocol.specs.Host.{strip, allAllowed};
 ghost use Rattle.protocol.specs.AddressReading.{destinationOf};
 ghost use Rattle.protocol.specs.Requests.{kindOf};
-ghost use Rattle.protocol.specs.Opening.{isEmpty, isMissing, isName, isIpv6, isNone, firstRecord, firstFour, check5, check4};
+ghost use Rattle.protocol.specs.Opening.{refuse, isEmpty, isMissing, isName, isIpv6, isNone, firstRecord, firstFour, check5, check4};
+ghost use Rattle.checks.specs.Checks.{checkShared, checkName};
 ghost use Rattle.addresses.specs.Answers.{addressText};
 ghost use Rattle.lookup.specs.Chosen.{recordsOf};
 use lookup::Lookup;
@@ -102,11 +103,52 @@ pub fn finds_no_four(chosen: Lookup) -> bool
     }
 }
 
+// What both versions refuse first, for an output of so many bytes of at least so many, ahead of what else an opening answers.
+fn check_shared(host: &[u8], port: Port, room: usize, least: usize, later: Answer) -> Answer
+    ensures { λ r. ⌜ r ≡ checkShared (now (host .entry)) port room least later ⌝ }
+{
+    if room < least {
+        return Answer::Refused(SocksError::ShortOutput);
+    }
+    if lacks_host(host) {
+        return Answer::Refused(SocksError::MissingHost);
+    }
+    if has_forbidden(host) {
+        return Answer::Refused(SocksError::HostByte);
+    }
+    if lacks_port(port) {
+        return Answer::Refused(SocksError::MissingPort);
+    }
+    later
+}
+
 // Whether a name had to be looked up, and no record serves.
 fn lookup_failed(wanted: bool, name: bool, none: bool) -> bool
     ensures { λ r. ⌜ r ≡ (wanted && (name && none)) ⌝ }
 {
     wanted && (name && none)
+}
+
+// What both versions refuse last: a name that no request takes, and one to be looked up that no record serves.
+fn check_name(name: bool, host: &[u8], most: usize, lookup: bool, none: bool) -> Answer
+    ensures { λ r. ⌜ r ≡ checkName name (now (host .entry)) most lookup none ⌝ }
+{
+    if name_too_long(name, host, most) {
+        return Answer::Refused(SocksError::HostTooLong);
+    }
+    if lookup_failed(lookup, name, none) {
+        return Answer::Refused(SocksError::DnsFailure);
+    }
+    Answer::Accepted
+}
+
+fn refuse_if(test: bool, error: SocksError, later: Answer) -> Answer
+    ensures { λ r. ⌜ r ≡ refuse test error later ⌝ }
+{
+    if test {
+        return Answer::Refused(error);
+    }
+    later
 }
 
 // The checks of a v5 opening, for an output of so many bytes.
@@ -121,57 +163,19 @@ pub fn check5(
 ) -> Answer
     ensures { λ r. ⌜ r ≡ check5 room (record { config = config; host = now (host .entry); port = port; user = now (user .entry); password = now (password .entry); records = recordsOf chosen }) ⌝ }
 {
-    if room < 262 {
-        return Answer::Refused(SocksError::ShortOutput);
-    }
-    if lacks_host(host) {
-        return Answer::Refused(SocksError::MissingHost);
-    }
-    if has_forbidden(host) {
-        return Answer::Refused(SocksError::HostByte);
-    }
-    if lacks_port(port) {
-        return Answer::Refused(SocksError::MissingPort);
-    }
-    if credentials_too_long(config.proxy_auth, user, password) {
-        return Answer::Refused(SocksError::CredentialTooLong);
-    }
     let name = is_name(kind_of(host));
-    if name_too_long(name, host, 255) {
-        return Answer::Refused(SocksError::HostTooLong);
-    }
-    if lookup_failed(config.local_dns, name, finds_none(chosen)) {
-        return Answer::Refused(SocksError::DnsFailure);
-    }
-    Answer::Accepted
+    let named = check_name(name, host, 255, config.local_dns, finds_none(chosen));
+    let long = credentials_too_long(config.proxy_auth, user, password);
+    let own = refuse_if(long, SocksError::CredentialTooLong, named);
+    check_shared(host, port, room, 262, own)
 }
 
 // The checks of a v4 opening, for an output of so many bytes.
 pub fn check4(local_dns: bool, host: &[u8], port: Port, chosen: Lookup, room: usize) -> Answer
     ensures { λ r. ⌜ r ≡ check4 room (record { localDns = «local_dns»; host = now (host .entry); port = port; records = recordsOf chosen }) ⌝ }
 {
-    if room < 1024 {
-        return Answer::Refused(SocksError::ShortOutput);
-    }
-    if lacks_host(host) {
-        return Answer::Refused(SocksError::MissingHost);
-    }
-    if has_forbidden(host) {
-        return Answer::Refused(SocksError::HostByte);
-    }
-    if lacks_port(port) {
-        return Answer::Refused(SocksError::MissingPort);
-    }
     let kind = kind_of(host);
-    if is_ipv6(kind) {
-        return Answer::Refused(SocksError::IpV6);
-    }
-    let name = is_name(kind);
-    if name_too_long(name, host, 1014) {
-        return Answer::Refused(SocksError::HostTooLong);
-    }
-    if lookup_failed(local_dns, name, finds_no_four(chosen)) {
-        return Answer::Refused(SocksError::DnsFailure);
-    }
-    Answer::Accepted
+    let named = check_name(is_name(kind), host, 1014, local_dns, finds_no_four(chosen));
+    let own = refuse_if(is_ipv6(kind), SocksError::IpV6, named);
+    check_shared(host, port, room, 1024, own)
 }

@@ -1,4 +1,4 @@
-use Rattle.checks.proofs.CheckLaws.{none-found}
+use Rattle.checks.proofs.Laws.{none-found}
 use Rattle.checks.proofs.checks.finds_none.Statement.{statement}
 use Rattle.checks.proofs.checks.finds_none.Tie as tie
 

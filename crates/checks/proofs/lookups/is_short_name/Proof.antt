@@ -6,7 +6,7 @@ use borrow.Author.Needs.{needs}
 use borrow.Author.Tests.{lt-ltb, le-ltb}
 use Rattle.protocol.specs.Host.{strip}
 use Rattle.protocol.specs.AddressReading.{destinationOf}
-use Rattle.checks.proofs.CheckLaws.{name-kind}
+use Rattle.checks.proofs.Laws.{name-kind}
 use Rattle.checks.proofs.lookups.is_short_name.Statement.{statement}
 use Rattle.checks.proofs.lookups.is_short_name.Tie as tie
 
