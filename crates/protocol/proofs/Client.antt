@@ -22,6 +22,7 @@ use Rattle.protocol.specs.Requests.{negotiationReq}
 use Rattle.protocol.specs.Opening.{noAuth, userPass, Opening, v5, v4, replies, atOpening, later, within, lengths}
 use Rattle.protocol.specs.Replies.{decide}
 use Rattle.protocol.specs.Machine.{Machine, has, sends, reads, run, machine, usedBy, used}
+use Rattle.protocol.specs.Agreement.{asMachine}
 use Rattle.protocol.specs.Client.{Kept, ClientTalk, limited, due, atProxyRes, atAuthenticationRes, afterMethod, talkAt, told, client, kept, begun, side, outcomeOf}
 use Rattle.protocol.proofs.Replies.{extends}
 use Rattle.talk.specs.Talk.{done, failed, stop, send, await, Session, waiting, ended, Fed, deciding, feed, isOver, reached}
@@ -70,8 +71,8 @@ same-machine : (m n : Machine) → m .sent ≡ n .sent → m .outcome ≡ n .out
 same-machine m n p q r = λ i. record { sent = p i; outcome = q i; place = r i }
 
 -- what a machine has that had sent bytes and stood at a place, and then was fed
-abbrev pub asMachine : List ℕ → ℕ → ClientFed → Machine
-asMachine sent place f = has (sent ++ f .sent) (outcomeOf (f .session)) (place + f .place)
+abbrev machineAfter : List ℕ → ℕ → ClientFed → Machine
+machineAfter sent place f = has (sent ++ f .sent) (outcomeOf (f .session)) (place + f .place)
 
 -- requests go behind so many bytes, and then a talk
 abbrev goes : Opening → List (List ℕ) → ℕ → ClientTalk → ClientTalk
@@ -87,8 +88,8 @@ Follows o (e ∷ es) left n t =
 
 module _ (c : Kept) (o : Opening) where
   sends-feed : (qs : List (List ℕ)) (sent : List ℕ) (place : ℕ) (bs : List ℕ) (t : ClientTalk) (on : List ℕ → Machine) (n : ℕ) → n ≡ length sent
-      → ((sent′ : List ℕ) → length sent′ ≡ n + lengths qs → on sent′ ≡ asMachine sent′ place (feed (client c) t bs))
-      → sends o qs sent place on ≡ asMachine sent place (feed (client c) (goes o qs n t) bs)
+      → ((sent′ : List ℕ) → length sent′ ≡ n + lengths qs → on sent′ ≡ machineAfter sent′ place (feed (client c) t bs))
+      → sends o qs sent place on ≡ machineAfter sent place (feed (client c) (goes o qs n t) bs)
   unfolding feed
   sends-feed [] sent place bs t on n e ih = ih sent (omega arith)
   sends-feed (q ∷ qs) sent place bs t on n e ih =
@@ -96,21 +97,21 @@ module _ (c : Kept) (o : Opening) where
       (go (within o (n + length q))
       (sends-feed qs (sent ++ q) place bs t on (n + length q) (omega (arith, length-append sent q)) (λ s w. ih s (omega arith))))
     where
-      go : (b : Bool) → sends o qs (sent ++ q) place on ≡ asMachine (sent ++ q) place (feed (client c) (goes o qs (n + length q) t) bs)
+      go : (b : Bool) → sends o qs (sent ++ q) place on ≡ machineAfter (sent ++ q) place (feed (client c) (goes o qs (n + length q) t) bs)
           → cond b (sends o qs (sent ++ q) place on) (has sent (Failed WouldOverflow) place)
-          ≡ asMachine sent place (feed (client c) (cond b (send q (goes o qs (n + length q) t)) (stop (failed WouldOverflow))) bs)
+          ≡ machineAfter sent place (feed (client c) (cond b (send q (goes o qs (n + length q) t)) (stop (failed WouldOverflow))) bs)
       go true i = i ∙ same-machine _ _ (append-assoc sent q _) refl refl
       go false i = same-machine _ _ (sym (append-nil sent)) refl (sym (add-zero place))
 
   reads-feed : (place : ℕ) (sent : List ℕ) (d : Decision) (s : Reply) (bs : List ℕ) (on : ℕ → ClientFed) (next : ℕ → Machine)
-      → ((n : ℕ) → d ≡ Decided n Good → next (place + n) ≡ asMachine sent (place + n) (on n))
-      → reads d sent place next ≡ asMachine sent place (deciding (told d) (waiting s bs) on)
+      → ((n : ℕ) → d ≡ Decided n Good → next (place + n) ≡ machineAfter sent (place + n) (on n))
+      → reads d sent place next ≡ machineAfter sent place (deciding (told d) (waiting s bs) on)
   reads-feed place sent Undecided s bs on next h = same-machine _ _ (sym (append-nil sent)) refl (sym (add-zero place))
   reads-feed place sent (Decided n Good) s bs on next h = h n refl ∙ same-machine _ _ refl refl (omega arith)
   reads-feed place sent (Decided n (Bad e)) s bs on next h = same-machine _ _ (sym (append-nil sent)) refl (omega arith)
 
   run-feed : (es : List Reply) (left : List (List ℕ)) (t : ClientTalk) (sent : List ℕ) (place : ℕ) (bs : List ℕ)
-      → Follows o es left (length sent) t → run o es left sent place bs ≡ asMachine sent place (feed (client c) t (drop place bs))
+      → Follows o es left (length sent) t → run o es left sent place bs ≡ machineAfter sent place (feed (client c) t (drop place bs))
   unfolding run feed
   run-feed [] left t sent place bs e = rw e (same-machine _ _ (sym (append-nil sent)) refl (sym (add-zero place)))
   run-feed (e ∷ es) left t sent place bs (k, u, w, f) =
@@ -167,17 +168,20 @@ pub begun-shaped : (o : Opening) → Shaped (side o) (begun o)
 begun-shaped o = rw (begun-goes o) (shaped-goes (kept o) o (atOpening o) 0 (talkAt (kept o) (firstReply o)) (shaped-at (kept o) (firstReply o)))
 
 -- the client's side equals the plain machine
-pub machine-feed : (o : Opening) (bs : List ℕ) → machine o bs ≡ asMachine [] 0 (feed (side o) (begun o) bs)
+machine-after : (o : Opening) (bs : List ℕ) → machine o bs ≡ machineAfter [] 0 (feed (side o) (begun o) bs)
 unfolding machine
-machine-feed o bs =
+machine-after o bs =
     rw (begun-goes o)
     (sends-feed (kept o) o (atOpening o) [] 0 bs (talkAt (kept o) (firstReply o)) _ 0 refl
     (λ sent′ z. run-feed (kept o) o (replies o) (later o) (talkAt (kept o) (firstReply o)) sent′ 0 bs (rw (z, zero-add) (follows o))))
 
-used-reached : (f : ClientFed) (bs : List ℕ) → (isOver (f .session) ≡ false → reached f ≡ length bs) → usedBy (outcomeOf (f .session)) (0 + f .place) bs ≡ reached f
+pub machine-feed : (o : Opening) (bs : List ℕ) → machine o bs ≡ asMachine (feed (side o) (begun o) bs)
+machine-feed o bs = let f = feed (side o) (begun o) bs in machine-after o bs ∙ same-machine (machineAfter [] 0 f) (asMachine f) refl refl (zero-add (f .place))
+
+used-reached : (f : ClientFed) (bs : List ℕ) → (isOver (f .session) ≡ false → reached f ≡ length bs) → usedBy (outcomeOf (f .session)) (f .place) bs ≡ reached f
 used-reached f bs h = go (f .session) refl
   where
-    go : (s : Session Reply Unit SocksError) → f .session ≡ s → usedBy (outcomeOf s) (0 + f .place) bs ≡ reached f
+    go : (s : Session Reply Unit SocksError) → f .session ≡ s → usedBy (outcomeOf s) (f .place) bs ≡ reached f
     go (waiting s held) e = sym (h (rw e))
     go (ended (done x)) e = rw e (omega arith)
     go (ended (failed x)) e = rw e (omega arith)

@@ -1,4 +1,4 @@
--- The † lines hold of the definitions.
+-- The † lines and the worked openings hold of the definitions.
 use mathlib.Core.Path.{_≡_, refl}
 use mathlib.Core.List.{map}
 use Rattle.protocol.specs.Host.{strip, allAllowed}
@@ -9,7 +9,12 @@ use Rattle.protocol.specs.Utf8.{classOf, among, first, next, scan, isBou
 use Rattle.protocol.specs.Replies.{negotiationVerdict, authenticationVerdict, responseVerdict, headAllowed, typeAllowed, proxySize, nameField, proxyVerdict, proxyAt, decide}
 use Rattle.protocol.specs.Machine.{run, machine, used}
 use Rattle.protocol.specs.Examples.{computed, cases}
+use Rattle.protocol.specs.Worked.{working, worked}
 
 pub examples : map computed cases ≡ cases
 unfolding strip allAllowed hexValue digitsFrom decimalGoes hexGoes numberOf groupOf markAt dotted ipv4Of followsAt row rightOf joinOf wholeOf startsGap ipv6Of destinationOf negotiationReq authenticationReq addressField proxyReq request firstFour check5 check4 opening5 opening4 classOf among first next scan isBoundary isUtf8 negotiationVerdict authenticationVerdict responseVerdict headAllowed typeAllowed proxySize nameField proxyVerdict proxyAt decide run machine used
 examples = refl
+
+pub worked-openings : map working worked ≡ worked
+unfolding strip allAllowed hexValue digitsFrom decimalGoes hexGoes numberOf groupOf markAt dotted ipv4Of followsAt row rightOf joinOf wholeOf startsGap ipv6Of destinationOf negotiationReq authenticationReq addressField proxyReq request firstFour check5 check4 opening5 opening4
+worked-openings = refl

@@ -10,11 +10,7 @@ use lib.Seq.{take-append-seam, getD-append-seam, split-at}
 use lib.Dec.{ltb, leb, eqb}
 use borrow.Author.Tests.{le-ltb, ltb-false, leb-false, lt-leb, eqb-true}
 use Rattle.protocol.specs.Bytes.{byte}
-use Rattle.protocol.specs.Host.{strip, allowed, allAllowed, Forbidden}
-
--- a host in brackets
-abbrev pub bracketed : List ℕ → List ℕ
-bracketed m = 0x5B ∷ (m ++ (0x5D ∷ []))
+use Rattle.protocol.specs.Host.{bracketed, strip, allowed, allAllowed, Forbidden}
 
 pub strip-brackets : (m : List ℕ) → strip (bracketed m) ≡ m
 unfolding strip

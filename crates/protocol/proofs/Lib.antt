@@ -1,3 +1,5 @@
+pub mod Bytes
+pub mod Claims
 pub mod Tests
 pub mod Utf8
 pub mod AddressDigits

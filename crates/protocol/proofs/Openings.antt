@@ -1,61 +1,53 @@
 -- An opening is accepted exactly when none of its conditions holds, and each number comes exactly when its condition is the first to hold.
 use Prim.Native.Nat.{ℕ, _<_}
 use native.Mathlib.Omega.{arith}
-use mathlib.Core.Path.{_≡_, refl, ap, _∙_}
+use mathlib.Core.Path.{_≡_, refl, ap, sym, _∙_}
 use mathlib.Core.Logic.{_↔_, _⊎_, inl, inr}
 use mathlib.Core.Option.{Option, none, some}
 use mathlib.Core.Bool.{Bool, true, false, _&&_, _||_, not, false≢true, true≢false}
 use mathlib.Core.List.{List, [], _∷_}
 use lib.ListN.{length}
-use lib.Dec.{ltb}
+use lib.Dec.{ltb, lit<}
 use borrow.Author.Tests.{lt-ltb, ltb-true, eqb-true, not-true}
 use Rattle.protocol.specs.declared.Port.{Port}
 use Rattle.protocol.specs.declared.Port.the-variants.{Missing, Given}
 use Rattle.protocol.specs.declared.Record.{Record}
 use Rattle.protocol.specs.declared.SocksError.{SocksError}
 use Rattle.protocol.specs.declared.Answer.{Answer}
-use Rattle.protocol.specs.declared.Answer.the-variants.{Accepted, Refused}
+use Rattle.protocol.specs.Numbers.{number, answerNumber}
 use Rattle.protocol.specs.Host.{strip, allAllowed, Forbidden}
 use Rattle.protocol.specs.AddressText.{Ipv6, Name}
 use Rattle.protocol.specs.AddressReading.{Destination, ipv4, ipv6, domain, destinationOf}
-use Rattle.protocol.specs.Opening.{V5, V4, firstRecord, firstFour, Condition, _↣_, conditions5, conditions4, None, First, refuse, isEmpty, isMissing, isName, isIpv6, isNone, check5, check4, asked5, asked4, opening5, opening4}
+use Rattle.protocol.specs.Opening.{V5, V4, firstRecord, firstFour, Condition, _↣_, conditions5, conditions4, First, Answers, refuse, isEmpty, isMissing, isName, isIpv6, isNone, check5, check4, asked5, asked4, opening5, opening4}
 use Rattle.protocol.proofs.Hosts.{forbidden-just}
 use Rattle.protocol.proofs.Destinations.{ipv6-just, domain-is, name-just}
 
--- an answer to conditions in their order
-pub record Answers (x : Answer) (cs : List Condition) : Type 0 where
-  pub accepts : x ≡ Accepted ↔ None cs
-  pub refuses : (e : SocksError) → x ≡ Refused e ↔ First e cs
+all-passed : Answers 0 []
+all-passed = record { accepts = (λ q. tt, λ q. refl); refuses = λ k l. (λ q. omega arith, λ q. absurd q) }
 
-all-passed : Answers Accepted []
-all-passed =
+checked : (b : Bool) (P : Type 0) (e : SocksError) (m : ℕ) (x : Answer) (cs : List Condition) → number e ≡ m → 0 < m → b ≡ true ↔ P → Answers (answerNumber x) cs
+    → Answers (answerNumber (refuse b e x)) ((P ↣ m) ∷ cs)
+checked true P e m x cs w v (p, q) a =
     record {
-      accepts = (λ q. tt, λ q. refl);
-      refuses = λ e. (λ q. (let z : _≡_ {A = ℕ} 0 1 = cc in absurd (omega arith)), λ q. absurd q);
-    }
-
-checked : (b : Bool) (P : Type 0) (e : SocksError) (x : Answer) (cs : List Condition) → b ≡ true ↔ P → Answers x cs → Answers (refuse b e x) ((P ↣ e) ∷ cs)
-checked true P e x cs (p, q) a =
-    record {
-      accepts = (λ r. (let z : _≡_ {A = ℕ} 0 1 = cc in absurd (omega arith)), λ r. absurd (r .0 (p refl)));
-      refuses = λ f. (λ r. inl (p refl, cc), held f);
+      accepts = (λ r. absurd (omega arith), λ r. absurd (r .0 (p refl)));
+      refuses = λ k l. (λ r. inl (p refl, sym w ∙ r), held k);
     }
   where
-    held : (f : SocksError) → (P × (e ≡ f)) ⊎ ((P → ⊥) × First f cs) → Refused e ≡ Refused f
-    held f (inl r) = ap Refused (r .1)
-    held f (inr r) = absurd (r .0 (p refl))
-checked false P e x cs (p, q) a =
+    held : (k : ℕ) → (P × (m ≡ k)) ⊎ ((P → ⊥) × First k cs) → number e ≡ k
+    held k (inl r) = w ∙ r .1
+    held k (inr r) = absurd (r .0 (p refl))
+checked false P e m x cs w v (p, q) a =
     record {
       accepts = (λ r. (no, a .accepts .0 r), λ r. a .accepts .1 (r .1));
-      refuses = λ f. (λ r. inr (no, a .refuses f .0 r), held f);
+      refuses = λ k l. (λ r. inr (no, a .refuses k l .0 r), held k l);
     }
   where
     no : P → ⊥
     no h = false≢true (q h)
 
-    held : (f : SocksError) → (P × (e ≡ f)) ⊎ ((P → ⊥) × First f cs) → x ≡ Refused f
-    held f (inl r) = absurd (no (r .0))
-    held f (inr r) = a .refuses f .1 (r .1)
+    held : (k : ℕ) → 0 < k → (P × (m ≡ k)) ⊎ ((P → ⊥) × First k cs) → answerNumber x ≡ k
+    held k l (inl r) = absurd (no (r .0))
+    held k l (inr r) = a .refuses k l .1 (r .1)
 
 -- ---- each test decides its condition
 
@@ -119,43 +111,37 @@ three-just a b c p q r =
 
 -- ---- the openings
 
-pub check5-just : (room : ℕ) (a : V5) → Answers (check5 room a) (conditions5 room a)
+pub check5-just : (room : ℕ) (a : V5) → Answers (answerNumber (check5 room a)) (conditions5 room a)
 unfolding check5
 check5-just room a =
     let s = strip (a .host) in
-    checked _ _ _ _ _ (less-just room 262)
-    (checked _ _ _ _ _ (either-just (isEmpty (a .host)) (isEmpty s) (empty-just (a .host)) (empty-just s))
-    (checked _ _ _ _ _ (forbidden s)
-    (checked _ _ _ _ _ (missing-just (a .port))
-    (checked _ _ _ _ _
+    checked _ _ _ _ _ _ refl (lit< tt) (less-just room 262)
+    (checked _ _ _ _ _ _ refl (lit< tt) (either-just (isEmpty (a .host)) (isEmpty s) (empty-just (a .host)) (empty-just s))
+    (checked _ _ _ _ _ _ refl (lit< tt) (forbidden s)
+    (checked _ _ _ _ _ _ refl (lit< tt) (missing-just (a .port))
+    (checked _ _ _ _ _ _ refl (lit< tt)
     (both-just (a .config .«proxy_auth») _ (itself (a .config .«proxy_auth»))
     (either-just (ltb 255 (length (a .user))) (ltb 255 (length (a .password))) (less-just 255 (length (a .user))) (less-just 255 (length (a .password)))))
-    (checked _ _ _ _ _ (both-just (isName (destinationOf s)) (ltb 255 (length s)) (is-name s) (less-just 255 (length s)))
-    (checked _ _ _ _ _
+    (checked _ _ _ _ _ _ refl (lit< tt) (both-just (isName (destinationOf s)) (ltb 255 (length s)) (is-name s) (less-just 255 (length s)))
+    (checked _ _ _ _ _ _ refl (lit< tt)
     (three-just (a .config .«local_dns») (isName (destinationOf s)) (isNone (firstRecord (a .records))) (itself (a .config .«local_dns»)) (is-name s) (none-just (firstRecord (a .records))))
     all-passed))))))
 
-pub check4-just : (room : ℕ) (a : V4) → Answers (check4 room a) (conditions4 room a)
+pub check4-just : (room : ℕ) (a : V4) → Answers (answerNumber (check4 room a)) (conditions4 room a)
 unfolding check4
 check4-just room a =
     let s = strip (a .host) in
-    checked _ _ _ _ _ (less-just room 1024)
-    (checked _ _ _ _ _ (either-just (isEmpty (a .host)) (isEmpty s) (empty-just (a .host)) (empty-just s))
-    (checked _ _ _ _ _ (forbidden s)
-    (checked _ _ _ _ _ (missing-just (a .port))
-    (checked _ _ _ _ _ (is-ipv6 s)
-    (checked _ _ _ _ _ (both-just (isName (destinationOf s)) (ltb 1014 (length s)) (is-name s) (less-just 1014 (length s)))
-    (checked _ _ _ _ _
+    checked _ _ _ _ _ _ refl (lit< tt) (less-just room 1024)
+    (checked _ _ _ _ _ _ refl (lit< tt) (either-just (isEmpty (a .host)) (isEmpty s) (empty-just (a .host)) (empty-just s))
+    (checked _ _ _ _ _ _ refl (lit< tt) (forbidden s)
+    (checked _ _ _ _ _ _ refl (lit< tt) (missing-just (a .port))
+    (checked _ _ _ _ _ _ refl (lit< tt) (is-ipv6 s)
+    (checked _ _ _ _ _ _ refl (lit< tt) (both-just (isName (destinationOf s)) (ltb 1014 (length s)) (is-name s) (less-just 1014 (length s)))
+    (checked _ _ _ _ _ _ refl (lit< tt)
     (three-just (a .localDns) (isName (destinationOf s)) (isNone (firstFour (a .records))) (itself (a .localDns)) (is-name s) (none-just (firstFour (a .records))))
     all-passed))))))
 
 -- ---- the lookup list changes nothing unless local lookup is on and the host is a name
-
-abbrev pub withRecords5 : V5 → List Record → V5
-withRecords5 a rs = record { config = a .config; host = a .host; port = a .port; user = a .user; password = a .password; records = rs }
-
-abbrev pub withRecords4 : V4 → List Record → V4
-withRecords4 a rs = record { localDns = a .localDns; host = a .host; port = a .port; records = rs }
 
 -- local lookup is off, or the host is no name
 abbrev Unread : Bool → Destination → Type 0
@@ -185,8 +171,8 @@ asked4-same lookup (ipv6 bs) rs rs′ u = refl
 asked4-same lookup (domain s) rs rs′ (inl e) = rw e
 asked4-same lookup (domain s) rs rs′ (inr e) = absurd (true≢false e)
 
-pub lookup5 : (room : ℕ) (a : V5) (rs : List Record) → (((a .config .«local_dns» ≡ true) × Name (strip (a .host))) → ⊥)
-    → (check5 room (withRecords5 a rs) ≡ check5 room a) × (opening5 (withRecords5 a rs) ≡ opening5 a)
+pub lookup5 : (room : ℕ) (a : V5) (rs : List Record) → ((a .config .«local_dns» ≡ true) × Name (strip (a .host)) → ⊥)
+    → let b : V5 = record { config = a .config; host = a .host; port = a .port; user = a .user; password = a .password; records = rs } in (check5 room b ≡ check5 room a) × (opening5 b ≡ opening5 a)
 unfolding check5 opening5
 lookup5 room a rs not-so =
     let u = unread (a .config .«local_dns») (strip (a .host)) not-so in (
@@ -194,8 +180,8 @@ lookup5 room a rs not-so =
       rw (asked5-same (a .config .«local_dns») (destinationOf (strip (a .host))) rs (a .records) u),
     )
 
-pub lookup4 : (room : ℕ) (a : V4) (rs : List Record) → (((a .localDns ≡ true) × Name (strip (a .host))) → ⊥)
-    → (check4 room (withRecords4 a rs) ≡ check4 room a) × (opening4 (withRecords4 a rs) ≡ opening4 a)
+pub lookup4 : (room : ℕ) (a : V4) (rs : List Record) → ((a .localDns ≡ true) × Name (strip (a .host)) → ⊥)
+    → let b : V4 = record { localDns = a .localDns; host = a .host; port = a .port; records = rs } in (check4 room b ≡ check4 room a) × (opening4 b ≡ opening4 a)
 unfolding check4 opening4
 lookup4 room a rs not-so =
     let u = unread (a .localDns) (strip (a .host)) not-so in (

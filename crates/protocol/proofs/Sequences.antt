@@ -1,5 +1,5 @@
 -- The plain machine is open exactly on its opening's grammar, if the requests fit.
-use Prim.Native.Nat.{ℕ, zero, suc, _+_, _≤_, zero-le}
+use Prim.Native.Nat.{ℕ, _+_, _≤_}
 use native.Mathlib.Nat.{add-zero}
 use native.Mathlib.Omega.{arith}
 use mathlib.Core.Path.{_≡_, refl, ap, sym, subst, _∙_}
@@ -24,8 +24,9 @@ use Rattle.protocol.specs.Requests.{negotiationReq, authenticationReq, p
 use Rattle.protocol.specs.Opening.{noAuth, userPass, Opening, v5, v4, Fits}
 use Rattle.protocol.specs.Replies.{decide}
 use Rattle.protocol.specs.Machine.{Machine, machine, used}
-use Rattle.protocol.specs.Grammar.{Bound, Sequence, plain, credentials, version4, Word, method-00, method-02, accepted, connected, granted}
+use Rattle.protocol.specs.Grammar.{Bound, Sequence, plain, credentials, version4, Replied, JustOne, Word, method-00, method-02, accepted, connected, granted}
 use Rattle.protocol.specs.Client.{Kept, ClientTalk, limited, due, atProxyRes, atAuthenticationRes, afterMethod, talkAt, told, client, kept, begun, side, outcomeOf}
+use Rattle.protocol.proofs.Bytes.{bytes-left, bytes-right}
 use Rattle.protocol.proofs.Words.{word-good, word-just}
 use Rattle.protocol.proofs.Client.{client-lawful, machine-feed, used-feed}
 use Rattle.talk.specs.Decision as talk
@@ -61,15 +62,6 @@ inverse method-02 = refl
 inverse accepted = refl
 inverse (connected {a} x) = (a, refl, x)
 inverse (granted {a} l) = (a, refl, l)
-
-bytes-left : (a b : List ℕ) → Bytes (a ++ b) → Bytes a
-bytes-left [] b x i = zero-le
-bytes-left (c ∷ a) b x zero = x 0
-bytes-left (c ∷ a) b x (suc i) = bytes-left a b (λ j. x (suc j)) i
-
-bytes-right : (a b : List ℕ) → Bytes (a ++ b) → Bytes b
-bytes-right [] b x i = x i
-bytes-right (c ∷ a) b x i = bytes-right a b (λ j. x (suc j)) i
 
 -- ---- requests that the send limit lets through
 
@@ -190,10 +182,6 @@ sequence-of _ _ (version4 {d} {port} {a} l) h = last-of (kept (v4 d port)) Respo
 
 -- ---- the plain machine
 
--- the bytes begin with a reply sequence of the opening
-abbrev pub Replied : Opening → List ℕ → Type 0
-Replied o bs = (p : List ℕ) × Begins p bs × Sequence o p
-
 outcome-open : (s : Session Reply Unit SocksError) → outcomeOf s ≡ Open → s ≡ ended (done tt)
 outcome-open (waiting s h) q = let z : _≡_ {A = ℕ} 0 1 = cc in absurd (omega arith)
 outcome-open (ended (done tt)) q = refl
@@ -220,14 +208,6 @@ open-just o bs y = (replied o bs y, λ ((p, b, s), h). opened o bs p b s h .0)
 
 same-beginning : (p p′ bs : List ℕ) → Begins p bs → Begins p′ bs → length p ≡ length p′ → p ≡ p′
 same-beginning p p′ bs (q, b) (q′, b′) l = sym (take-at p q (length p) refl) ∙ ap (take (length p)) (sym b ∙ b′) ∙ take-at p′ q′ (length p) (sym l)
-
--- just one beginning is a reply sequence, and it has so many bytes
-pub record JustOne (o : Opening) (bs : List ℕ) (n : ℕ) : Type 0 where
-  pub begin : List ℕ
-  pub begins : Begins begin bs
-  pub is : Sequence o begin
-  pub only : (p : List ℕ) → Begins p bs → Sequence o p → p ≡ begin
-  pub long : n ≡ length begin
 
 pub open-one : (o : Opening) (bs : List ℕ) → Bytes bs → machine o bs .outcome ≡ Open → JustOne o bs (used o bs)
 open-one o bs y q =

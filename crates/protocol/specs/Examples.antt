@@ -4,7 +4,7 @@ use Prim.Native.Char.{code}
 use Prim.Native.String.{String, [] as empty, _∷_ as _⋮_}
 use mathlib.Core.Bool.{true, false}
 use mathlib.Core.List.{List, [], _∷_, _++_}
-use lib.ListN.{length, replicate}
+use lib.ListN.{replicate}
 use Rattle.protocol.specs.declared.Port.the-variants.{Given}
 use Rattle.protocol.specs.declared.Answer.{Answer}
 use Rattle.protocol.specs.declared.Answer.the-variants.{Accepted, Refused}
@@ -32,25 +32,25 @@ shown Open = opens
 shown (Failed e) = fails (number e) (status e)
 
 -- a host: its bytes, the same stripped, and what they are
--- a session: its arguments and the bytes received; its outcome, the bytes used, and how many were sent
+-- a session: its arguments and the bytes received; its outcome, how many bytes it used, and the bytes sent
 pub data Case : Type 0 where
   host : List ℕ → List ℕ → Destination → Case
-  over5 : V5 → List ℕ → Shown → ℕ → ℕ → Case
-  over4 : V4 → List ℕ → Shown → ℕ → ℕ → Case
+  over5 : V5 → List ℕ → Shown → ℕ → List ℕ → Case
+  over4 : V4 → List ℕ → Shown → ℕ → List ℕ → Case
 
 abbrev pub run5 : V5 → List ℕ → Answer → Case
-run5 a bs Accepted = let o = opening5 a in over5 a bs (shown (machine o bs .outcome)) (used o bs) (length (machine o bs .sent))
-run5 a bs (Refused e) = over5 a bs (fails (number e) (status e)) 0 0
+run5 a bs Accepted = let o = opening5 a in over5 a bs (shown (machine o bs .outcome)) (used o bs) (machine o bs .sent)
+run5 a bs (Refused e) = over5 a bs (fails (number e) (status e)) 0 []
 
 abbrev pub run4 : V4 → List ℕ → Answer → Case
-run4 a bs Accepted = let o = opening4 a in over4 a bs (shown (machine o bs .outcome)) (used o bs) (length (machine o bs .sent))
-run4 a bs (Refused e) = over4 a bs (fails (number e) (status e)) 0 0
+run4 a bs Accepted = let o = opening4 a in over4 a bs (shown (machine o bs .outcome)) (used o bs) (machine o bs .sent)
+run4 a bs (Refused e) = over4 a bs (fails (number e) (status e)) 0 []
 
 -- a case as the definitions have it
 abbrev pub computed : Case → Case
 computed (host h s d) = host h (strip h) (destinationOf (strip h))
-computed (over5 a bs r n k) = run5 a bs (check5 262 a)
-computed (over4 a bs r n k) = run4 a bs (check4 1024 a)
+computed (over5 a bs r n q) = run5 a bs (check5 262 a)
+computed (over4 a bs r n q) = run4 a bs (check4 1024 a)
 
 -- plain openings, port 443: v5 without credentials, v5 with, v4
 abbrev pub open5 : List ℕ → V5
@@ -84,6 +84,26 @@ nameOf n = replicate n 0x61
 abbrev pub address : List ℕ
 address = text "192.0.2.7"
 
+-- what these openings send, by its bytes: a greeting without credentials and with, credentials, and a connect by name and by the address
+abbrev pub greeting : List ℕ
+greeting = 0x05 ∷ 0x01 ∷ 0x00 ∷ []
+
+abbrev pub greetingSigned : List ℕ
+greetingSigned = 0x05 ∷ 0x01 ∷ 0x02 ∷ []
+
+abbrev pub credentials : ℕ → ℕ → List ℕ
+credentials u p = 0x01 ∷ u ∷ (replicate u 0x75 ++ (p ∷ replicate p 0x70))
+
+abbrev pub connectName : ℕ → List ℕ
+connectName n = 0x05 ∷ 0x01 ∷ 0x00 ∷ 0x03 ∷ n ∷ (nameOf n ++ (0x01 ∷ 0xBB ∷ []))
+
+abbrev pub connect : List ℕ
+connect = 0x05 ∷ 0x01 ∷ 0x00 ∷ 0x01 ∷ 0xC0 ∷ 0x00 ∷ 0x02 ∷ 0x07 ∷ 0x01 ∷ 0xBB ∷ []
+
+-- over v4, by a name of 11 bytes
+abbrev pub request4 : List ℕ
+request4 = 0x04 ∷ 0x01 ∷ 0x01 ∷ 0xBB ∷ 0x00 ∷ 0x00 ∷ 0x00 ∷ 0xFF ∷ 0x00 ∷ (nameOf 11 ++ (0x00 ∷ []))
+
 -- a connect reply that says success
 abbrev pub success : List ℕ
 success = 0x05 ∷ 0x00 ∷ 0x00 ∷ 0x01 ∷ 0xC0 ∷ 0x00 ∷ 0x02 ∷ 0x07 ∷ 0x1F ∷ 0x90 ∷ []
@@ -99,29 +119,29 @@ cases =
     ∷ host (text "1:2:3:4:5:6:7:8::") (text "1:2:3:4:5:6:7:8::") (domain (text "1:2:3:4:5:6:7:8::"))
     ∷ host (text "1.2.3.4::") (text "1.2.3.4::") (domain (text "1.2.3.4::"))
     -- no credentials: a 252-byte name opens; with 253, `05 00` brings 11 after 3 sent bytes
-    ∷ over5 (open5 (nameOf 252)) (0x05 ∷ 0x00 ∷ success) opens 12 262
-    ∷ over5 (open5 (nameOf 253)) (0x05 ∷ 0x00 ∷ []) (fails 11 0) 2 3
+    ∷ over5 (open5 (nameOf 252)) (0x05 ∷ 0x00 ∷ success) opens 12 (greeting ++ connectName 252)
+    ∷ over5 (open5 (nameOf 253)) (0x05 ∷ 0x00 ∷ []) (fails 11 0) 2 greeting
     -- IPv4 with credentials of 246 bytes together sends 262; with 247, 11 after 253 sent bytes
-    ∷ over5 (signed5 address 123 123) (0x05 ∷ 0x02 ∷ 0x01 ∷ 0x00 ∷ success) opens 14 262
-    ∷ over5 (signed5 address 123 124) (0x05 ∷ 0x02 ∷ 0x01 ∷ 0x00 ∷ success) (fails 11 0) 4 253
+    ∷ over5 (signed5 address 123 123) (0x05 ∷ 0x02 ∷ 0x01 ∷ 0x00 ∷ success) opens 14 (greetingSigned ++ (credentials 123 123 ++ connect))
+    ∷ over5 (signed5 address 123 124) (0x05 ∷ 0x02 ∷ 0x01 ∷ 0x00 ∷ success) (fails 11 0) 4 (greetingSigned ++ credentials 123 124)
     -- no credentials: `05 02` 13, `05 FF` 12, `05 01` 10
-    ∷ over5 (open5 address) (0x05 ∷ 0x02 ∷ []) (fails 13 0) 2 3
-    ∷ over5 (open5 address) (0x05 ∷ 0xFF ∷ []) (fails 12 0) 2 3
-    ∷ over5 (open5 address) (0x05 ∷ 0x01 ∷ []) (fails 10 0) 2 3
+    ∷ over5 (open5 address) (0x05 ∷ 0x02 ∷ []) (fails 13 0) 2 greeting
+    ∷ over5 (open5 address) (0x05 ∷ 0xFF ∷ []) (fails 12 0) 2 greeting
+    ∷ over5 (open5 address) (0x05 ∷ 0x01 ∷ []) (fails 10 0) 2 greeting
     -- with credentials: `05 02 01 07` 14
-    ∷ over5 (signed5 address 1 1) (0x05 ∷ 0x02 ∷ 0x01 ∷ 0x07 ∷ []) (fails 14 0) 4 8
+    ∷ over5 (signed5 address 1 1) (0x05 ∷ 0x02 ∷ 0x01 ∷ 0x07 ∷ []) (fails 14 0) 4 (greetingSigned ++ credentials 1 1)
     -- connect reply `05 05 00 09` waits; one byte more, 10
-    ∷ over5 (open5 address) (0x05 ∷ 0x00 ∷ 0x05 ∷ 0x05 ∷ 0x00 ∷ 0x09 ∷ []) waits 6 13
-    ∷ over5 (open5 address) (0x05 ∷ 0x00 ∷ 0x05 ∷ 0x05 ∷ 0x00 ∷ 0x09 ∷ 0x00 ∷ []) (fails 10 0) 7 13
+    ∷ over5 (open5 address) (0x05 ∷ 0x00 ∷ 0x05 ∷ 0x05 ∷ 0x00 ∷ 0x09 ∷ []) waits 6 (greeting ++ connect)
+    ∷ over5 (open5 address) (0x05 ∷ 0x00 ∷ 0x05 ∷ 0x05 ∷ 0x00 ∷ 0x09 ∷ 0x00 ∷ []) (fails 10 0) 7 (greeting ++ connect)
     -- `05 00 00 03 00` 10; `05 00 00 03 01 FF 00 50` 10, at its eighth byte
-    ∷ over5 (open5 address) (0x05 ∷ 0x00 ∷ 0x05 ∷ 0x00 ∷ 0x00 ∷ 0x03 ∷ 0x00 ∷ []) (fails 10 0) 7 13
-    ∷ over5 (open5 address) (0x05 ∷ 0x00 ∷ 0x05 ∷ 0x00 ∷ 0x00 ∷ 0x03 ∷ 0x01 ∷ 0xFF ∷ 0x00 ∷ []) waits 9 13
-    ∷ over5 (open5 address) (0x05 ∷ 0x00 ∷ 0x05 ∷ 0x00 ∷ 0x00 ∷ 0x03 ∷ 0x01 ∷ 0xFF ∷ 0x00 ∷ 0x50 ∷ []) (fails 10 0) 10 13
+    ∷ over5 (open5 address) (0x05 ∷ 0x00 ∷ 0x05 ∷ 0x00 ∷ 0x00 ∷ 0x03 ∷ 0x00 ∷ []) (fails 10 0) 7 (greeting ++ connect)
+    ∷ over5 (open5 address) (0x05 ∷ 0x00 ∷ 0x05 ∷ 0x00 ∷ 0x00 ∷ 0x03 ∷ 0x01 ∷ 0xFF ∷ 0x00 ∷ []) waits 9 (greeting ++ connect)
+    ∷ over5 (open5 address) (0x05 ∷ 0x00 ∷ 0x05 ∷ 0x00 ∷ 0x00 ∷ 0x03 ∷ 0x01 ∷ 0xFF ∷ 0x00 ∷ 0x50 ∷ []) (fails 10 0) 10 (greeting ++ connect)
     -- v4: seven bytes beginning `04 5A` wait, the eighth brings 10
-    ∷ over4 (open4 (nameOf 11)) (0x04 ∷ 0x5A ∷ replicate 5 0) waits 7 21
-    ∷ over4 (open4 (nameOf 11)) (0x04 ∷ 0x5A ∷ replicate 6 0) (fails 10 0) 8 21
+    ∷ over4 (open4 (nameOf 11)) (0x04 ∷ 0x5A ∷ replicate 5 0) waits 7 request4
+    ∷ over4 (open4 (nameOf 11)) (0x04 ∷ 0x5A ∷ replicate 6 0) (fails 10 0) 8 request4
     -- `00 5B` and six bytes: 15, status 91
-    ∷ over4 (open4 (nameOf 11)) (0x00 ∷ 0x5B ∷ replicate 6 0) (fails 15 91) 8 21
+    ∷ over4 (open4 (nameOf 11)) (0x00 ∷ 0x5B ∷ replicate 6 0) (fails 15 91) 8 request4
     -- 01's example of a tunnel: what follows the last reply is not used
-    ∷ over5 (open5 address) (0x05 ∷ 0x00 ∷ (success ++ text "SDF")) opens 12 13
+    ∷ over5 (open5 address) (0x05 ∷ 0x00 ∷ (success ++ text "SDF")) opens 12 (greeting ++ connect)
     ∷ []

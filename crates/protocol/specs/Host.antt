@@ -2,10 +2,14 @@
 use Prim.Native.Nat.{ℕ, _-_, _<_}
 use mathlib.Core.Logic.{_⊎_}
 use mathlib.Core.Bool.{Bool, true, false, cond, _&&_}
-use mathlib.Core.List.{List, [], _∷_}
+use mathlib.Core.List.{List, [], _∷_, _++_}
 use lib.ListN.{length, take, drop}
 use lib.Dec.{ltb, leb, eqb}
 use Rattle.protocol.specs.Bytes.{byte}
+
+-- a host in brackets
+abbrev pub bracketed : List ℕ → List ℕ
+bracketed m = 0x5B ∷ (m ++ (0x5D ∷ []))
 
 -- `strip_ipv6_brackets`: `[` and `]` go only if both stand at the ends
 unfoldable pub strip : List ℕ → List ℕ

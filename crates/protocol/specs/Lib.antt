@@ -10,4 +10,6 @@ pub mod Replies
 pub mod Machine
 pub mod Grammar
 pub mod Client
+pub mod Agreement
 pub mod Examples
+pub mod Worked

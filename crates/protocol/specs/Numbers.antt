@@ -1,5 +1,7 @@
--- Document 01's number and status of each refusal and failure.
+-- Document 01's number and status of each refusal and failure, and its number of an answer.
 use Prim.Native.Nat.{ℕ}
+use Rattle.protocol.specs.declared.Answer.{Answer}
+use Rattle.protocol.specs.declared.Answer.the-variants.{Accepted, Refused}
 use Rattle.protocol.specs.declared.SocksError.{SocksError}
 use Rattle.protocol.specs.declared.SocksError.the-variants.{ShortOutput, MissingHost, HostByte, MissingPort, CredentialTooLong, HostTooLong, IpV6, DnsFailure, UnexpectedEof, Parsing, WouldOverflow, Unsupported, MethodMismatch, Failed, Command, Settled}
 
@@ -27,3 +29,8 @@ number e = numbers e .0
 
 abbrev pub status : SocksError → ℕ
 status e = numbers e .1
+
+-- a call's answer: 0 if it was accepted
+abbrev pub answerNumber : Answer → ℕ
+answerNumber Accepted = 0
+answerNumber (Refused e) = number e

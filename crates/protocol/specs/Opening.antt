@@ -1,7 +1,7 @@
 -- Document 01, "Opening v5" and "Opening v4": the arguments, the checks in their order, and what an accepted opening asks and expects.
 use Prim.Native.Nat.{ℕ, _+_, _≤_, _<_}
 use mathlib.Core.Path.{_≡_}
-use mathlib.Core.Logic.{_⊎_}
+use mathlib.Core.Logic.{_↔_, _⊎_}
 use mathlib.Core.Option.{Option, none, some}
 use mathlib.Core.Bool.{Bool, true, false, cond, _&&_, _||_, not}
 use mathlib.Core.List.{List, [], _∷_}
@@ -61,35 +61,35 @@ firstFour (r ∷ rs) = unlessFour (r .family) (r .address) (firstFour rs)
 
 -- ---- the checks: 01's conditions in its order, each with its number, for an output of so many bytes
 
--- a condition, and with what it refuses
+-- a condition, and the number with which it refuses
 pub record Condition : Type 1 where
   pub Holds : Type 0
-  pub error : SocksError
+  pub number : ℕ
 
-abbrev pub _↣_ : Type 0 → SocksError → Condition
-_↣_ P e = record { Holds = P; error = e }
+abbrev pub _↣_ : Type 0 → ℕ → Condition
+_↣_ P n = record { Holds = P; number = n }
 
 infixr 6 _↣_
 abbrev pub conditions5 : ℕ → V5 → List Condition
 conditions5 room a =
-    ((room < 262) ↣ ShortOutput)
-    ∷ (((a .host ≡ []) ⊎ (strip (a .host) ≡ [])) ↣ MissingHost)
-    ∷ (Forbidden (strip (a .host)) ↣ HostByte)
-    ∷ ((a .port ≡ Missing) ↣ MissingPort)
-    ∷ (((a .config .«proxy_auth» ≡ true) × ((255 < length (a .user)) ⊎ (255 < length (a .password)))) ↣ CredentialTooLong)
-    ∷ ((Name (strip (a .host)) × (255 < length (strip (a .host)))) ↣ HostTooLong)
-    ∷ (((a .config .«local_dns» ≡ true) × Name (strip (a .host)) × (firstRecord (a .records) ≡ none)) ↣ DnsFailure)
+    ((room < 262) ↣ 1)
+    ∷ (((a .host ≡ []) ⊎ (strip (a .host) ≡ [])) ↣ 2)
+    ∷ (Forbidden (strip (a .host)) ↣ 3)
+    ∷ ((a .port ≡ Missing) ↣ 4)
+    ∷ (((a .config .«proxy_auth» ≡ true) × ((255 < length (a .user)) ⊎ (255 < length (a .password)))) ↣ 5)
+    ∷ ((Name (strip (a .host)) × (255 < length (strip (a .host)))) ↣ 6)
+    ∷ (((a .config .«local_dns» ≡ true) × Name (strip (a .host)) × (firstRecord (a .records) ≡ none)) ↣ 8)
     ∷ []
 
 abbrev pub conditions4 : ℕ → V4 → List Condition
 conditions4 room a =
-    ((room < 1024) ↣ ShortOutput)
-    ∷ (((a .host ≡ []) ⊎ (strip (a .host) ≡ [])) ↣ MissingHost)
-    ∷ (Forbidden (strip (a .host)) ↣ HostByte)
-    ∷ ((a .port ≡ Missing) ↣ MissingPort)
-    ∷ (((bs : List ℕ) × Ipv6Text (strip (a .host)) bs) ↣ IpV6)
-    ∷ ((Name (strip (a .host)) × (1014 < length (strip (a .host)))) ↣ HostTooLong)
-    ∷ (((a .localDns ≡ true) × Name (strip (a .host)) × (firstFour (a .records) ≡ none)) ↣ DnsFailure)
+    ((room < 1024) ↣ 1)
+    ∷ (((a .host ≡ []) ⊎ (strip (a .host) ≡ [])) ↣ 2)
+    ∷ (Forbidden (strip (a .host)) ↣ 3)
+    ∷ ((a .port ≡ Missing) ↣ 4)
+    ∷ (((bs : List ℕ) × Ipv6Text (strip (a .host)) bs) ↣ 7)
+    ∷ ((Name (strip (a .host)) × (1014 < length (strip (a .host)))) ↣ 6)
+    ∷ (((a .localDns ≡ true) × Name (strip (a .host)) × (firstFour (a .records) ≡ none)) ↣ 8)
     ∷ []
 
 -- none holds
@@ -97,10 +97,15 @@ abbrev pub None : List Condition → Type 0
 None [] = Unit {0}
 None (c ∷ cs) = (c .Holds → ⊥) × None cs
 
--- one with this error holds, and none before it
-abbrev pub First : SocksError → List Condition → Type 0
-First e [] = ⊥
-First e (c ∷ cs) = (c .Holds × (c .error ≡ e)) ⊎ ((c .Holds → ⊥) × First e cs)
+-- one with this number holds, and none before it
+abbrev pub First : ℕ → List Condition → Type 0
+First n [] = ⊥
+First n (c ∷ cs) = (c .Holds × (c .number ≡ n)) ⊎ ((c .Holds → ⊥) × First n cs)
+
+-- the number that answers conditions in their order: 0 exactly when none holds, any other exactly when it is the first
+pub record Answers (n : ℕ) (cs : List Condition) : Type 0 where
+  pub accepts : n ≡ 0 ↔ None cs
+  pub refuses : (k : ℕ) → 0 < k → n ≡ k ↔ First k cs
 
 -- ---- the same as tests
 

@@ -10,10 +10,14 @@ use Rattle.protocol.specs.declared.SocksError.{SocksError}
 use Rattle.protocol.specs.declared.SocksError.the-variants.{ShortOutput, UnexpectedEof, Settled}
 use Rattle.protocol.specs.declared.Answer.{Answer}
 use Rattle.protocol.specs.declared.Answer.the-variants.{Accepted, Refused}
-use Rattle.protocol.specs.Opening.{V5, V4, check5, check4, Opening, opening5, opening4}
+use Rattle.protocol.specs.declared.Record.{Record}
+use Rattle.protocol.specs.Host.{strip}
+use Rattle.protocol.specs.AddressText.{Name}
+use Rattle.protocol.specs.Opening.{V5, V4, conditions5, conditions4, Answers, check5, check4, Opening, opening5, opening4}
+use Rattle.protocol.proofs.Openings.{check5-just, check4-just, lookup5, lookup4}
 use Rattle.session.specs.declared.Session.{Session}
 use Rattle.session.specs.Session.{view, packed}
-use Rattle.session.specs.Numbers.{answerNumber}
+use Rattle.protocol.specs.Numbers.{answerNumber}
 use Rattle.session.specs.Calls.{Call, refusal, nothingKept, emptySession, openBy, open5, open4, takes, deliver, end}
 use Rattle.talk.specs.Talk.{failed, ended, isOver}
 
@@ -29,6 +33,24 @@ open5-answers a out = answers (check5 (length out) a) (opening5 a) out
 pub open4-answers : (a : V4) (out : List ℕ) → open4 a out .answer ≡ check4 (length out) a
 unfolding open4
 open4-answers a out = answers (check4 (length out) a) (opening4 a) out
+
+-- the number of an opening's answer: each comes exactly when its condition holds and none before it
+pub open5-number : (a : V5) (out : List ℕ) → Answers (answerNumber (open5 a out .answer)) (conditions5 (length out) a)
+open5-number a out = rw (open5-answers a out) (check5-just (length out) a)
+
+pub open4-number : (a : V4) (out : List ℕ) → Answers (answerNumber (open4 a out .answer)) (conditions4 (length out) a)
+open4-number a out = rw (open4-answers a out) (check4-just (length out) a)
+
+-- the lookup's list changes nothing unless local lookup is on and the host is a name
+pub open5-lookup : (a : V5) (rs : List Record) (out : List ℕ) → ((a .config .«local_dns» ≡ true) × Name (strip (a .host)) → ⊥)
+    → open5 (record { config = a .config; host = a .host; port = a .port; user = a .user; password = a .password; records = rs }) out ≡ open5 a out
+unfolding open5
+open5-lookup a rs out n = let l = lookup5 (length out) a rs n in rw (l .0, l .1)
+
+pub open4-lookup : (a : V4) (rs : List Record) (out : List ℕ) → ((a .localDns ≡ true) × Name (strip (a .host)) → ⊥)
+    → open4 (record { localDns = a .localDns; host = a .host; port = a .port; records = rs }) out ≡ open4 a out
+unfolding open4
+open4-lookup a rs out n = let l = lookup4 (length out) a rs n in rw (l .0, l .1)
 
 untouched : (x : Answer) (o : Opening) (out : List ℕ) (e : SocksError) → x ≡ Refused e → openBy x o out ≡ refusal e (emptySession nothingKept e) out
 untouched x o out e p = rw p

@@ -1,26 +1,20 @@
 -- The session that an accepted opening returns stands for the opening's talk; demand 3 of it; and what refusals leave.
 use Prim.Native.Nat.{ℕ, _-_}
-use mathlib.Core.Path.{_≡_, refl}
-use mathlib.Core.Bool.{Bool, false}
+use mathlib.Core.Path.{_≡_}
 use mathlib.Core.List.{List, []}
-use lib.ListN.{length, take, replicate}
+use lib.ListN.{length, take}
 use lib.Seq.{take-append-seam}
 use Rattle.protocol.specs.declared.SocksError.the-variants.{Settled}
 use Rattle.protocol.specs.declared.Answer.{Answer}
 use Rattle.protocol.specs.declared.Answer.the-variants.{Accepted}
-use Rattle.protocol.specs.Bytes.{Bytes}
-use Rattle.protocol.specs.AddressReading.{Destination, ipv4, ipv6, domain}
-use Rattle.protocol.specs.Requests.{authenticationReq, proxyReq, keptDestination}
-use Rattle.protocol.specs.Opening.{V5, V4, check5, check4, Opening, v5, v4, noAuth, userPass, opening5, opening4}
+use Rattle.protocol.specs.Opening.{V5, V4, check5, check4, Opening, opening5, opening4}
 use Rattle.protocol.specs.Client as client
-use Rattle.sending.specs.declared.Kept.{Kept}
-use Rattle.sending.specs.Stages.{requestsOf}
-use Rattle.session.specs.Calls.{addressOf, keptWith, keptBy, emptySession, begins, openBy, open5, open4, receiver}
-use Rattle.socks.specs.Demand3.{Demand3}
+use Rattle.session.specs.Calls.{keptBy, emptySession, begins, openBy, open5, open4}
+use Rattle.socks.specs.Demand3.{BytePieces, Demand3}
 use Rattle.openings.proofs.KeptBy.{kept-by}
 use Rattle.socks.proofs.Tunnels.{view-packed, Begun, demand3}
 use Rattle.talk.specs.Talk.{feed}
-use Rattle.talk.specs.Tunnel.{Delivery, joined}
+use Rattle.talk.specs.Tunnel.{Delivery}
 
 begun : (o : Opening) (out : List ℕ)
     → let a = begins o (feed (client.side o) (client.begun o) []) out in Begun o (a .session) (take (a .sent) (a .output))
@@ -36,13 +30,13 @@ opened : (x : Answer) (o : Opening) (out : List ℕ) → x ≡ Accepted → Begu
 opened x o out e = rw e (begun o out)
 
 -- for every opening that v5 accepts, any output, and every list of deliveries
-pub demand3-v5 : (a : V5) (out : List ℕ) → check5 (length out) a ≡ Accepted → (ds : List Delivery) → Bytes (joined receiver ds)
+pub demand3-v5 : (a : V5) (out : List ℕ) → check5 (length out) a ≡ Accepted → (ds : List Delivery) → BytePieces ds
     → Demand3 (opening5 a) (open5 a out .session) (take (open5 a out .sent) (open5 a out .output)) ds
 unfolding open5
 demand3-v5 a out e ds y = demand3 (opening5 a) _ _ (opened (check5 (length out) a) (opening5 a) out e) ds y
 
 -- and for every opening that v4 accepts
-pub demand3-v4 : (a : V4) (out : List ℕ) → check4 (length out) a ≡ Accepted → (ds : List Delivery) → Bytes (joined receiver ds)
+pub demand3-v4 : (a : V4) (out : List ℕ) → check4 (length out) a ≡ Accepted → (ds : List Delivery) → BytePieces ds
     → Demand3 (opening4 a) (open4 a out .session) (take (open4 a out .sent) (open4 a out .output)) ds
 unfolding open4
 demand3-v4 a out e ds y = demand3 (opening4 a) _ _ (opened (check4 (length out) a) (opening4 a) out e) ds y

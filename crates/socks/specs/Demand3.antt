@@ -2,16 +2,21 @@
 use Prim.Native.Nat.{ℕ}
 use mathlib.Core.Path.{_≡_}
 use mathlib.Core.Logic.{_↔_}
-use mathlib.Core.List.{List}
+use mathlib.Core.List.{List, List·Memᴰ}
 use lib.ListN.{drop}
 use Rattle.protocol.specs.declared.Outcome.the-variants.{Open}
+use Rattle.protocol.specs.Bytes.{Bytes}
 use Rattle.protocol.specs.Opening.{Opening, Fits}
 use Rattle.protocol.specs.Machine.{machine, used}
-use Rattle.protocol.proofs.Sequences.{Replied, JustOne}
+use Rattle.protocol.specs.Grammar.{Replied, JustOne}
 use Rattle.session.specs.declared.Session.{Session}
 use Rattle.session.specs.Session.{outcome}
 use Rattle.session.specs.Calls.{receiver}
 use Rattle.talk.specs.Tunnel.{Delivery, joined, Tunnel, tunnel}
+
+-- each delivery's piece is a byte string, as a slice of bytes is
+abbrev pub BytePieces : List Delivery → Type 0
+BytePieces ds = (d : Delivery) → List·Memᴰ d ds → Bytes (d .piece)
 
 -- what two tunnels have alike: outcome with status, sent bytes, total count and rests
 pub record Alike (t u : Tunnel Session) : Type 0 where

@@ -1,20 +1,8 @@
 -- Two receivers that answer alike, as long as their sessions are related: their tunnels are alike.
 use mathlib.Core.Path.{_≡_, refl}
 use mathlib.Core.List.{List, [], _∷_}
-use lib.ListN.{take}
-use Rattle.talk.specs.Tunnel.{Answer, Receiver, Delivery, rest, answerTo, after, joined, rests, total, sentBy}
-
--- two answers, with the sessions related
-pub record Alike {X Y A B : Type 0} (R : X → Y → Type 0) (a : Answer X A) (b : Answer Y B) : Type 0 where
-  pub session : R (a .session) (b .session)
-  pub used : a .used ≡ b .used
-  pub sent : take (a .sent) (a .output) ≡ take (b .sent) (b .output)
-
-pub record Followed {X Y A B : Type 0} (R : X → Y → Type 0) (K : Receiver X A) (L : Receiver Y B) (x : X) (y : Y) (ds : List Delivery) : Type 0 where
-  pub session : R (after K x ds) (after L y ds)
-  pub sent : sentBy K x ds ≡ sentBy L y ds
-  pub count : total K x ds ≡ total L y ds
-  pub rest : rests K x ds ≡ rests L y ds
+use Rattle.talk.specs.Tunnel.{Receiver, Delivery, answerTo, after, joined, rests, total, sentBy}
+use Rattle.talk.specs.Follow.{Alike, Followed}
 
 module _ {X Y A B : Type 0} (R : X → Y → Type 0) (K : Receiver X A) (L : Receiver Y B) (room : K .room ≡ L .room)
     (step : (x : X) (y : Y) → R x y → (d : Delivery) → Alike R (answerTo K x d) (answerTo L y d)) where

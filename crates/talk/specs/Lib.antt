@@ -3,3 +3,4 @@ pub mod Talk
 pub mod Tunnel
 pub mod Lawful
 pub mod Pieces
+pub mod Follow

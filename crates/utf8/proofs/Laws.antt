@@ -3,21 +3,16 @@ use Prim.Native.Nat.{ℕ, _+_, _<_, _≤_}
 use native.Mathlib.Numerals.{add-one}
 use mathlib.Core.Path.{_≡_, refl, ap}
 use mathlib.Core.Bool.{Bool, true, false}
-use mathlib.Core.List.{List, [], _∷_, _++_}
+use mathlib.Core.List.{List, [], _∷_}
 use lib.Dec.{eqb}
-use lib.ListN.{length, getD, drop, replicate, drop-of-length-le}
+use lib.ListN.{length, getD, drop, drop-of-length-le}
 use lib.Seq.{drop-cons}
 use borrow.Author.Tests.{eqb-true}
 use Rattle.protocol.specs.declared.Utf8State.{Utf8State}
 use Rattle.protocol.specs.declared.Utf8State.the-variants.{Boundary, Invalid}
 use Rattle.protocol.specs.Utf8.{classOf, next, scan, isBoundary, isUtf8}
 use Rattle.protocol.proofs.Tests.{allBelow, below}
-
--- the table of the code
-unfoldable pub table : List ℕ
-table =
-    replicate 128 0 ++ (replicate 16 1 ++ (replicate 16 2 ++ (replicate 32 3 ++ (replicate 2 11 ++ (replicate 30 4 ++ (5 ∷ (replicate 12 6 ++ (
-    7 ∷ 6 ∷ 6 ∷ 8 ∷ 9 ∷ 9 ∷ 9 ∷ 10 ∷ replicate 11 11))))))))
+use Rattle.utf8.specs.Table.{table}
 
 abbrev right : ℕ → Bool
 right b = eqb (getD table b 0) (classOf b)

@@ -103,9 +103,9 @@ pub fn least(a: usize, b: usize) -> usize
 pub fn rest(piece: &[u8], count: usize) -> &[u8]
     ensures { λ r. ⌜ now r ≡ drop count (now (piece .entry)) ⌝ }
 {
-    if piece.len() <= count {
-        let end = piece.len();
+    let end = piece.len();
+    if end <= count {
         return &piece[end..];
     }
-    &piece[count..]
+    &piece[count..end]
 }

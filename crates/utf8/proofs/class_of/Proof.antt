@@ -1,4 +1,5 @@
-use Rattle.utf8.proofs.Laws.{table, class-at}
+use Rattle.utf8.specs.Table.{table}
+use Rattle.utf8.proofs.Laws.{class-at}
 use borrow.Author.Needs.{needs}
 use Rattle.utf8.proofs.class_of.Statement.{statement}
 use Rattle.utf8.proofs.class_of.Tie as tie

@@ -1,0 +1,44 @@
+-- Which lists are byte strings.
+use Prim.Native.Nat.{ℕ, zero, suc, _≤_, zero-le}
+use mathlib.Core.Path.{_≡_, refl}
+use mathlib.Core.Logic.{_↔_, _⊎_, inl, inr}
+use mathlib.Core.List.{List, [], _∷_, _++_, List·Memᴰ, List·Memᴰ·head, List·Memᴰ·tail, List·Memᴰ·not-nil, List·Memᴰ·cases-cons}
+use lib.ListN.{take, drop, take-append-drop}
+use Rattle.protocol.specs.Bytes.{Bytes}
+
+member : (bs : List ℕ) → Bytes bs → (b : ℕ) → List·Memᴰ b bs → b ≤ 255
+member [] y b m = absurd (List·Memᴰ·not-nil m)
+member (c ∷ bs) y b m = go (member bs (λ i. y (suc i)) b) (List·Memᴰ·cases-cons m)
+  where
+    go : (List·Memᴰ b bs → b ≤ 255) → (b ≡ c) ⊎ List·Memᴰ b bs → b ≤ 255
+    go later (inl e) = rw e (y 0)
+    go later (inr h) = later h
+
+indexed : (bs : List ℕ) → ((b : ℕ) → List·Memᴰ b bs → b ≤ 255) → Bytes bs
+indexed [] f i = zero-le
+indexed (c ∷ bs) f zero = f c (List·Memᴰ·head refl)
+indexed (c ∷ bs) f (suc i) = indexed bs (λ b m. f b (List·Memᴰ·tail m)) i
+
+-- a list is Bytes exactly when each of its elements is at most 255
+pub bytes-just : (bs : List ℕ) → Bytes bs ↔ ((b : ℕ) → List·Memᴰ b bs → b ≤ 255)
+bytes-just bs = (member bs, indexed bs)
+
+-- so is every join of such lists, and every part
+pub bytes-join : (a b : List ℕ) → Bytes a → Bytes b → Bytes (a ++ b)
+bytes-join [] b x y i = y i
+bytes-join (c ∷ a) b x y zero = x 0
+bytes-join (c ∷ a) b x y (suc i) = bytes-join a b (λ j. x (suc j)) y i
+
+pub bytes-left : (a b : List ℕ) → Bytes (a ++ b) → Bytes a
+bytes-left [] b x i = zero-le
+bytes-left (c ∷ a) b x zero = x 0
+bytes-left (c ∷ a) b x (suc i) = bytes-left a b (λ j. x (suc j)) i
+
+pub bytes-right : (a b : List ℕ) → Bytes (a ++ b) → Bytes b
+bytes-right [] b x i = x i
+bytes-right (c ∷ a) b x i = bytes-right a b (λ j. x (suc j)) i
+
+pub bytes-part : (bs : List ℕ) (from n : ℕ) → Bytes bs → Bytes (take n (drop from bs))
+bytes-part bs from n y =
+    let d : Bytes (drop from bs) = bytes-right (take from bs) (drop from bs) (rw (take-append-drop from bs) y) in
+    bytes-left (take n (drop from bs)) (drop n (drop from bs)) (rw (take-append-drop n (drop from bs)) d)
