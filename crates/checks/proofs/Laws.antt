@@ -7,15 +7,14 @@ use lib.ListN.{length}
 use lib.Dec.{ltb}
 use Rattle.protocol.specs.declared.AddressKind.{AddressKind}
 use Rattle.protocol.specs.declared.Answer.{Answer}
-use Rattle.protocol.specs.declared.Answer.the-variants.{Accepted}
 use Rattle.protocol.specs.declared.Port.{Port}
 use Rattle.protocol.specs.declared.Record.{Record}
 use Rattle.protocol.specs.declared.SocksConfig.{SocksConfig}
-use Rattle.protocol.specs.declared.SocksError.the-variants.{ShortOutput, MissingHost, HostByte, MissingPort, CredentialTooLong, HostTooLong, IpV6, DnsFailure}
-use Rattle.protocol.specs.Host.{strip, allAllowed}
+use Rattle.protocol.specs.declared.SocksError.the-variants.{CredentialTooLong, IpV6}
+use Rattle.protocol.specs.Host.{strip}
 use Rattle.protocol.specs.AddressReading.{Destination, ipv4, ipv6, domain, destinationOf}
 use Rattle.protocol.specs.Requests.{kindOf}
-use Rattle.protocol.specs.Opening.{refuse, isEmpty, isMissing, isName, isIpv6, isNone, firstRecord, firstFour, check5, check4}
+use Rattle.protocol.specs.Opening.{refuse, isName, isIpv6, isNone, firstRecord, firstFour, check5, check4}
 use Rattle.addresses.specs.Answers.{addressText}
 use Rattle.checks.specs.Checks.{checkShared, checkName}
 
@@ -39,7 +38,7 @@ module _ (host : List ℕ) (port : Port) (room : ℕ) (records : List Record) {k
   pub checks5 : (config : SocksConfig) (user password : List ℕ) {none long : Bool} → kind ≡ addressText (destinationOf (strip host)) .kind → name ≡ isName (kindOf kind [])
       → none ≡ isNone (firstRecord records) → named ≡ checkName name host 255 (config .«local_dns») none
       → long ≡ (config .«proxy_auth» && (ltb 255 (length user) || ltb 255 (length password))) → own ≡ refuse long CredentialTooLong named
-      → r ≡ checkShared host port room 262 own
+      → r ≡ checkShared host port room 778 own
       → r ≡ check5 room (record { config = config; host = host; port = port; user = user; password = password; records = records })
   unfolding check5
   checks5 config user password k n f d l o e =

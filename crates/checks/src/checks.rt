@@ -167,7 +167,7 @@ pub fn check5(
     let named = check_name(name, host, 255, config.local_dns, finds_none(chosen));
     let long = credentials_too_long(config.proxy_auth, user, password);
     let own = refuse_if(long, SocksError::CredentialTooLong, named);
-    check_shared(host, port, room, 262, own)
+    check_shared(host, port, room, 778, own)
 }
 
 // The checks of a v4 opening, for an output of so many bytes.

@@ -57,17 +57,17 @@ short-credentials true u p e =
     (ltb-false 255 (length u) (n .0), ltb-false 255 (length p) (n .1))
 short-credentials false u p e = (zero-le, zero-le)
 
-pub accepted5 : (room : ℕ) (a : V5) → check5 room a ≡ Accepted → (262 ≤ room) × Short5 a
+pub accepted5 : (room : ℕ) (a : V5) → check5 room a ≡ Accepted → (778 ≤ room) × Short5 a
 unfolding check5
 accepted5 room a e =
-    let p₁ = passed (ltb room 262) ShortOutput _ e in
+    let p₁ = passed (ltb room 778) ShortOutput _ e in
     let p₂ = passed (isEmpty (a .host) || isEmpty (strip (a .host))) MissingHost _ (p₁ .1) in
     let p₃ = passed (not (allAllowed (strip (a .host)))) HostByte _ (p₂ .1) in
     let p₄ = passed (isMissing (a .port)) MissingPort _ (p₃ .1) in
     let p₅ = passed _ CredentialTooLong _ (p₄ .1) in
     let p₆ = passed (isName (destinationOf (strip (a .host))) && ltb 255 (length (strip (a .host)))) HostTooLong (refuse (a .config .«local_dns» && (isName (destinationOf (strip (a .host))) && isNone (firstRecord (a .records)))) DnsFailure Accepted) (p₅ .1) in
     let s = short-credentials (a .config .«proxy_auth») (a .user) (a .password) (p₅ .0) in (
-      ltb-false room 262 (p₁ .0),
+      ltb-false room 778 (p₁ .0),
       record {
         name = short-name (isName (destinationOf (strip (a .host)))) (length (strip (a .host))) 255 (p₆ .0);
         user = s .0;

@@ -91,7 +91,7 @@ module _ (config : SocksConfig) (host : List ℕ) (port : Port) (user password :
   open5-reads : open5 (given5 (recordsOf (chosenOf false noneFound (take (cond (looksUp (config .«local_dns») host 255) 1 0) rs)))) out ≡ open5 (given5 rs) out
   unfolding open5 check5 opening5
   open5-reads =
-      under (ltb (length out) 262) ShortOutput _ _ _ _ out
+      under (ltb (length out) 778) ShortOutput _ _ _ _ out
       (under (isEmpty host || isEmpty (strip host)) MissingHost _ _ _ _ out
       (under (not (allAllowed (strip host))) HostByte _ _ _ _ out
       (under (isMissing port) MissingPort _ _ _ _ out

@@ -1,5 +1,5 @@
 -- What the checks of an accepted opening give the code that follows them.
-use Prim.Native.Nat.{ℕ, _≤_}
+use Prim.Native.Nat.{_≤_}
 use mathlib.Core.Path.{_≡_}
 use mathlib.Core.Bool.{Bool, true, false, cond}
 use mathlib.Core.List.{[]}
@@ -7,8 +7,6 @@ use lib.ListN.{length}
 use Rattle.protocol.specs.declared.AuthMethod.{AuthMethod}
 use Rattle.protocol.specs.declared.AuthMethod.the-variants.{NoAuth, UserPass}
 use Rattle.protocol.specs.Host.{strip}
-use Rattle.wire.specs.declared.Written.{Written}
-use Rattle.wire.specs.declared.Written.the-variants.{At, WouldOverflow}
 use Rattle.protocol.specs.AddressReading.{destinationOf}
 use Rattle.protocol.specs.Opening.{V5, V4, isName, isIpv6}
 
@@ -24,8 +22,3 @@ pub record Short5 (a : V5) : Type 0 where
 pub record Short4 (a : V4) : Type 0 where
   pub name : isName (destinationOf (strip (a .host))) ≡ true → length (strip (a .host)) ≤ 1014
   pub not-ipv6 : isIpv6 (destinationOf (strip (a .host))) ≡ false
-
--- the place that a writer answers, where there was room
-abbrev pub placeOf : Written → ℕ
-placeOf (At n) = n
-placeOf WouldOverflow = 0

@@ -1,5 +1,5 @@
 -- An accepted opening over v4: its request.
-use Prim.Native.Nat.{ℕ, _+_, _≤_}
+use Prim.Native.Nat.{ℕ, _+_}
 use native.Mathlib.Omega.{arith}
 use mathlib.Core.Path.{_≡_, refl, ap, sym, _∙_, subst}
 use mathlib.Core.Bool.{Bool, true, false, cond, not, _&&_}
@@ -23,7 +23,7 @@ use Rattle.addresses.specs.declared.AddressText.{AddressText}
 use Rattle.addresses.specs.Answers.{addressText}
 use Rattle.wire.specs.declared.Written.{Written}
 use Rattle.wire.specs.Written.{Wrote, Writes}
-use Rattle.wire.proofs.Laws.{fitted, at-place}
+use Rattle.wire.proofs.Laws.{fitted}
 use Rattle.sending.specs.declared.Stage.the-variants.{Awaiting}
 use Rattle.sending.specs.declared.Kept.{Kept}
 use Rattle.lookup.specs.declared.Lookup.{Lookup}
@@ -31,15 +31,11 @@ use Rattle.session.specs.declared.Session.{Session}
 use Rattle.sending.specs.Stages.{viewAt}
 use Rattle.session.specs.Session.{packed}
 use Rattle.lookup.specs.Chosen.{recordsOf}
-use Rattle.openings.specs.Accepted.{placeOf}
 use Rattle.session.specs.Calls.{nothingKept, emptySession, openBy, Opens}
 use Rattle.session.proofs.Deliveries.{at-start}
 use Rattle.openings.proofs.Accepting.{fedBy, begins-by, no}
 use Rattle.talk.specs.Talk.{feed}
 use Rattle.talk.proofs.Feed.{same-fed}
-
-pub placed : {out out′ bs : List ℕ} {r : Written} {n : ℕ} → Writes true out 0 bs r out′ → 0 + length bs ≤ length out → n ≡ placeOf r → Wrote out 0 bs n out′
-placed w h e = let f = fitted w h in record { inside = h; place = e ∙ ap placeOf (at-place w h); bytes = f .bytes }
 
 pub four-put : (bytes : List ℕ) {r : Written} {next : List ℕ} → length bytes ≡ 16 → Writes true (replicate 4 0) 0 (take 4 bytes) r next → next ≡ take 4 bytes
 four-put bytes h w =

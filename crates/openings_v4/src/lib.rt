@@ -10,7 +10,6 @@ ghost use Rattle.protocol.specs.Opening.{firstFour, isNone, isName, isIpv6, fou
 ghost use Rattle.protocol.specs.declared.Answer.the-variants as Answer;
 ghost use Rattle.wire.specs.Written.{Wrote};
 ghost use Rattle.lookup.specs.Chosen.{recordsOf};
-ghost use Rattle.openings.specs.Accepted.{placeOf};
 ghost use Rattle.session.specs.Calls.{openBy, Opens, open4};
 use checks::checks::check4;
 use checks::checks::finds_no_four;
@@ -24,17 +23,7 @@ use protocol::Record;
 use protocol::Reply;
 use sending::Stage;
 use session::Opened;
-use wire::Written;
-
-// The place behind what was written, where there was room.
-fn place(written: Written) -> usize
-    ensures { λ r. ⌜ r ≡ placeOf written ⌝ }
-{
-    match written {
-        Written::At(next) => next,
-        Written::WouldOverflow => 0,
-    }
-}
+use wire::place;
 
 fn first_four(bytes: [u8; 16]) -> [u8; 4]
     ensures { λ r. ⌜ (r ≡ take 4 bytes) × (length bytes ≡ 16) ⌝ }
@@ -50,7 +39,7 @@ fn send_address(bytes: [u8; 16], port: u16, out: &mut [u8]) -> usize
     ensures { λ r. ⌜ (Wrote (now (out .entry)) 0 (request (address (take 4 bytes)) port) r (now (out .exit))) × (length bytes ≡ 16) ⌝ }
 {
     let ip = first_four(bytes);
-    place(requests_v4::write_request_address(out, 0, ip, port))
+    place(requests_v4::write_request_address(out, 0, ip, port), 0)
 }
 
 fn finds_four(chosen: Lookup) -> bool
@@ -69,7 +58,7 @@ fn send_name(text: &[u8], port: u16, lookup: bool, chosen: Lookup, out: &mut [u8
         let bytes = found.address;
         return send_address(bytes, port, out);
     }
-    place(requests_v4::write_request_name(out, 0, text, port))
+    place(requests_v4::write_request_name(out, 0, text, port), 0)
 }
 
 // The request of an accepted opening.

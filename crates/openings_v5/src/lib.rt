@@ -1,15 +1,14 @@
 // Opening a session over SOCKS5.
 ghost use mathlib.Core.Path.{_≡_};
-ghost use mathlib.Core.Bool.{false, cond};
+ghost use mathlib.Core.Bool.{cond};
 ghost use mathlib.Core.List.{[]};
 ghost use Prim.Native.Nat.{_+_, _≤_};
 ghost use lib.ListN.{length};
 ghost use Rattle.protocol.specs.Requests.{negotiationReq};
-ghost use Rattle.protocol.specs.declared.Reply.the-variants as Reply;
+ghost use Rattle.protocol.specs.declared.AuthMethod.the-variants as AuthMethod;
 ghost use Rattle.wire.specs.Written.{Wrote};
 ghost use Rattle.sending.specs.Stages.{requestsOf};
-ghost use Rattle.sending.specs.Due.{dueAt, Sends};
-ghost use Rattle.openings_v5.specs.Begin.{followBy, dueFollow, firstStage, dueBegin, plainly};
+ghost use Rattle.openings_v5.specs.Begin.{followOf, beginOf};
 ghost use Rattle.lookup.specs.Chosen.{recordsOf};
 ghost use Rattle.openings.specs.Accepted.{methodOf, Short5};
 ghost use Rattle.session.specs.Calls.{keptBy, openBy, Opens, open5};
@@ -25,108 +24,51 @@ use protocol::Port;
 use protocol::Record;
 use protocol::Reply;
 use protocol::SocksConfig;
-use protocol::SocksError;
-use sending::Due;
 use sending::Kept;
 use sending::Stage;
-use sending::authentication_len;
-use sending::send_authentication;
-use sending::send_proxy;
+use sending::put_authentication;
+use sending::put_proxy;
 use session::Opened;
-use wire::Written;
+use wire::place;
 
 fn greet(method: AuthMethod, out: &mut [u8]) -> usize
-    requires { ⌜ 262 ≤ length (now out) ⌝ }
-    ensures { λ r. ⌜ (Wrote (now (out .entry)) 0 (negotiationReq method) r (now (out .exit))) × (r ≤ 3) ⌝ }
+    requires { ⌜ 778 ≤ length (now out) ⌝ }
+    ensures { λ r. ⌜ Wrote (now (out .entry)) 0 (negotiationReq method) r (now (out .exit)) ⌝ }
 {
-    match requests_v5::write_negotiation_req(out, 0, method) {
-        Written::At(next) => next,
-        Written::WouldOverflow => 0,
-    }
+    place(requests_v5::write_negotiation_req(out, 0, method), 0)
 }
 
-// AuthenticationReq and ProxyReq behind a greeting, each if it is within the send limit.
-fn follow_authentication(kept: Kept, out: &mut [u8], at: usize) -> Due
-    requires { ⌜ (kept .optimistic ≡ false) × (at ≤ 3) × (262 ≤ length (now out)) ⌝ }
-    ensures { λ r. ⌜ Sends (followBy (dueAt false 3 (requestsOf kept .authentication) Reply.AuthenticationRes .stage) (dueAt false 3 (requestsOf kept .authentication) Reply.AuthenticationRes) (dueAt false (3 + length (requestsOf kept .authentication)) (requestsOf kept .proxy) Reply.ProxyRes)) (now (out .entry)) at (r .stage) (r .sent) (now (out .exit)) ⌝ }
+// AuthenticationReq and ProxyReq.
+fn follow_authentication(kept: Kept, out: &mut [u8], at: usize) -> usize
+    requires { ⌜ at + 775 ≤ length (now out) ⌝ }
+    ensures { λ r. ⌜ Wrote (now (out .entry)) at (followOf (requestsOf kept) AuthMethod.UserPass) r (now (out .exit)) ⌝ }
 {
-    let due = send_authentication(kept, out, at);
-    let stage = due.stage;
-    match stage {
-        Stage::Awaiting(reply) => {
-            let before = 3 + authentication_len(kept);
-            send_proxy(kept, before, out, due.sent)
-        }
-        Stage::Open => Due {
-            stage: stage,
-            sent: due.sent,
-        },
-        Stage::Failed(error) => Due {
-            stage: stage,
-            sent: due.sent,
-        },
-    }
+    let next = put_authentication(kept, out, at);
+    put_proxy(kept, out, next)
 }
 
-// What follows a greeting in one go.
-fn follow(kept: Kept, method: AuthMethod, out: &mut [u8], at: usize) -> Due
-    requires { ⌜ (kept .optimistic ≡ false) × (at ≤ 3) × (262 ≤ length (now out)) ⌝ }
-    ensures { λ r. ⌜ Sends (dueFollow (requestsOf kept) method) (now (out .entry)) at (r .stage) (r .sent) (now (out .exit)) ⌝ }
+// All requests behind a greeting.
+fn follow(kept: Kept, method: AuthMethod, out: &mut [u8], at: usize) -> usize
+    requires { ⌜ at + 775 ≤ length (now out) ⌝ }
+    ensures { λ r. ⌜ Wrote (now (out .entry)) at (followOf (requestsOf kept) method) r (now (out .exit)) ⌝ }
 {
     match method {
-        AuthMethod::NoAuth => send_proxy(kept, 3, out, at),
+        AuthMethod::NoAuth => put_proxy(kept, out, at),
         AuthMethod::UserPass => follow_authentication(kept, out, at),
-        AuthMethod::NoneAcceptable => Due {
-            stage: Stage::Failed(SocksError::MethodMismatch),
-            sent: at,
-        },
-    }
-}
-
-fn plainly(kept: Kept) -> Kept
-    ensures { λ r. ⌜ r ≡ plainly kept ⌝ }
-{
-    let address = kept.address;
-    let user = kept.user;
-    let password = kept.password;
-    Kept {
-        optimistic: false,
-        address: address,
-        user: user,
-        user_len: kept.user_len,
-        password: password,
-        password_len: kept.password_len,
-    }
-}
-
-fn first_stage(method: AuthMethod, stage: Stage) -> Stage
-    ensures { λ r. ⌜ r ≡ firstStage method stage ⌝ }
-{
-    match stage {
-        Stage::Awaiting(reply) => Stage::Awaiting(Reply::NegotiationRes(method)),
-        Stage::Open => Stage::Open,
-        Stage::Failed(error) => Stage::Failed(error),
+        AuthMethod::NoneAcceptable => at,
     }
 }
 
 // The greeting, and optimistically all that follows it.
-fn begin(kept: Kept, method: AuthMethod, out: &mut [u8]) -> Due
-    requires { ⌜ 262 ≤ length (now out) ⌝ }
-    ensures { λ r. ⌜ Sends (dueBegin (kept .optimistic) method (dueFollow (requestsOf kept) method)) (now (out .entry)) 0 (r .stage) (r .sent) (now (out .exit)) ⌝ }
+fn begin(kept: Kept, method: AuthMethod, out: &mut [u8]) -> usize
+    requires { ⌜ 778 ≤ length (now out) ⌝ }
+    ensures { λ r. ⌜ Wrote (now (out .entry)) 0 (beginOf (kept .optimistic) (requestsOf kept) method) r (now (out .exit)) ⌝ }
 {
     let at = greet(method, out);
     if kept.optimistic {
-        let due = follow(plainly(kept), method, out, at);
-        let stage = due.stage;
-        return Due {
-            stage: first_stage(method, stage),
-            sent: due.sent,
-        };
+        return follow(kept, method, out, at);
     }
-    Due {
-        stage: Stage::Awaiting(Reply::NegotiationRes(method)),
-        sent: at,
-    }
+    at
 }
 
 fn method_of(auth: bool) -> AuthMethod
@@ -184,12 +126,12 @@ fn accept(
     ensures { λ r. ⌜ Opens (openBy Answer.Accepted (opening5 (record { config = config; host = now (host .entry); port = port; user = now (user .entry); password = now (password .entry); records = recordsOf chosen })) (now (out .entry))) r (now (out .exit)) ⌝ }
 {
     let kept = keep(config, host, port, user, password, chosen);
-    let due = begin(kept, method_of(config.proxy_auth), out);
-    let stage = due.stage;
+    let method = method_of(config.proxy_auth);
+    let sent = begin(kept, method, out);
     Opened {
         answer: Answer::Accepted,
-        sent: due.sent,
-        session: openings::fresh(stage, kept),
+        sent: sent,
+        session: openings::fresh(Stage::Awaiting(Reply::NegotiationRes(method)), kept),
     }
 }
 

@@ -6,6 +6,7 @@ use mathlib.Core.Bool.{Bool, true, false, cond, true≢false}
 use mathlib.Core.Logic.{_↔_}
 use Prim.Native.Nat.{ℕ}
 use native.Mathlib.Omega.{arith}
+use lib.ListN.{length, length-append, length-replicate}
 use lib.Dec.{eqb}
 use borrow.Author.Tests.{ne-eqb}
 use Rattle.protocol.specs.AddressText as G
@@ -116,3 +117,14 @@ name-just s = (there, back (destinationOf s) refl)
     back (ipv4 bs) e f = absurd (f bs .0 (ipv4-just s bs .0 e))
     back (ipv6 bs) e f = absurd (f bs .1 (ipv6-just s bs .0 e))
     back (domain n) e f = let k = domain-is s n e in cc
+
+-- an IPv4 address has four bytes, an IPv6 address sixteen
+pub ipv4-length : (s bs : List ℕ) → destinationOf s ≡ ipv4 bs → length bs ≡ 4
+ipv4-length s bs e = dotted-length (ipv4-just s bs .0 e)
+
+sixteen : {s bs : List ℕ} → Ipv6 s bs → length bs ≡ 16
+sixteen (G.whole t l) = l
+sixteen (G.gap {us} {ws} x y h) = simp (length-append, length-replicate) (omega arith)
+
+pub ipv6-length : (s bs : List ℕ) → destinationOf s ≡ ipv6 bs → length bs ≡ 16
+ipv6-length s bs e = sixteen (ipv6-just s bs .0 e)

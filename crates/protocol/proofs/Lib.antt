@@ -13,3 +13,5 @@ pub mod Words
 pub mod Client
 pub mod Sequences
 pub mod Examples
+pub mod Limits
+pub mod Rooms

@@ -115,7 +115,7 @@ pub check5-just : (room : ℕ) (a : V5) → Answers (answerNumber (check5 room a
 unfolding check5
 check5-just room a =
     let s = strip (a .host) in
-    checked _ _ _ _ _ _ refl (lit< tt) (less-just room 262)
+    checked _ _ _ _ _ _ refl (lit< tt) (less-just room 778)
     (checked _ _ _ _ _ _ refl (lit< tt) (either-just (isEmpty (a .host)) (isEmpty s) (empty-just (a .host)) (empty-just s))
     (checked _ _ _ _ _ _ refl (lit< tt) (forbidden s)
     (checked _ _ _ _ _ _ refl (lit< tt) (missing-just (a .port))

@@ -1,18 +1,15 @@
--- The plain machine is open exactly on its opening's grammar, if the requests fit.
-use Prim.Native.Nat.{ℕ, _+_, _≤_}
+-- The plain machine is open exactly on its opening's grammar.
+use Prim.Native.Nat.{ℕ, _+_}
 use native.Mathlib.Nat.{add-zero}
 use native.Mathlib.Omega.{arith}
 use mathlib.Core.Path.{_≡_, refl, ap, sym, subst, _∙_}
 use mathlib.Core.Logic.{_↔_}
-use mathlib.Core.Bool.{Bool, true, false, cond, true≢false}
+use mathlib.Core.Bool.{Bool, true, false, true≢false}
 use mathlib.Core.List.{List, [], _∷_, _++_, append-nil}
 use lib.ListN.{length, take}
 use lib.Seq.{take-at}
-use lib.Dec.{leb}
-use borrow.Author.Tests.{leb-true, le-leb}
 use Rattle.protocol.specs.declared.AuthMethod.the-variants.{NoAuth, UserPass, NoneAcceptable}
 use Rattle.protocol.specs.declared.SocksError.{SocksError}
-use Rattle.protocol.specs.declared.SocksError.the-variants.{WouldOverflow}
 use Rattle.protocol.specs.declared.Reply.{Reply}
 use Rattle.protocol.specs.declared.Reply.the-variants.{NegotiationRes, AuthenticationRes, ProxyRes, Response}
 use Rattle.protocol.specs.declared.Verdict.the-variants.{Good, Bad}
@@ -20,17 +17,16 @@ use Rattle.protocol.specs.declared.Decision.{Decision}
 use Rattle.protocol.specs.declared.Decision.the-variants.{Undecided, Decided}
 use Rattle.protocol.specs.declared.Outcome.the-variants.{Waiting, Open}
 use Rattle.protocol.specs.Bytes.{Bytes}
-use Rattle.protocol.specs.Requests.{negotiationReq, authenticationReq, proxyReq}
-use Rattle.protocol.specs.Opening.{noAuth, userPass, Opening, v5, v4, Fits}
+use Rattle.protocol.specs.Opening.{noAuth, userPass, Opening, v5, v4}
 use Rattle.protocol.specs.Replies.{decide}
 use Rattle.protocol.specs.Machine.{Machine, machine, used}
 use Rattle.protocol.specs.Grammar.{Bound, Sequence, plain, credentials, version4, Replied, JustOne, Word, method-00, method-02, accepted, connected, granted}
-use Rattle.protocol.specs.Client.{Kept, ClientTalk, limited, due, atProxyRes, atAuthenticationRes, afterMethod, talkAt, told, client, kept, begun, side, outcomeOf}
+use Rattle.protocol.specs.Client.{Kept, ClientTalk, due, atProxyRes, atAuthenticationRes, afterMethod, talkAt, told, client, kept, begun, side, outcomeOf}
 use Rattle.protocol.proofs.Bytes.{bytes-left, bytes-right}
 use Rattle.protocol.proofs.Words.{word-good, word-just}
 use Rattle.protocol.proofs.Client.{client-lawful, machine-feed, used-feed}
 use Rattle.talk.specs.Decision as talk
-use Rattle.talk.specs.Talk.{done, failed, stop, send, await, Session, waiting, ended, feed, heldBy, isOver}
+use Rattle.talk.specs.Talk.{done, failed, stop, await, Session, waiting, ended, feed, heldBy, isOver}
 use Rattle.talk.specs.Lawful.{Good as GoodAt, Accepts, Begins}
 use Rattle.talk.proofs.Accept.{opens, parsed, feed-used}
 
@@ -63,27 +59,15 @@ inverse accepted = refl
 inverse (connected {a} x) = (a, refl, x)
 inverse (granted {a} l) = (a, refl, l)
 
--- ---- requests that the send limit lets through
+-- ---- a request that is due changes nothing of what is accepted
 
-module _ (c : Kept) (n : ℕ) (q : List ℕ) (t : ClientTalk) (p : List ℕ) where
-  limited-is : Accepts (client c) (limited n q t) p tt → (n + length q ≤ 262) × Accepts (client c) t p tt
-  limited-is a = go (leb (n + length q) 262) refl a
-    where
-      go : (b : Bool) → leb (n + length q) 262 ≡ b → Accepts (client c) (cond b (send q t) (stop (failed WouldOverflow))) p tt → (n + length q ≤ 262) × Accepts (client c) t p tt
-      go true e w = (leb-true (n + length q) 262 e, w)
-      go false e w = absurd w
+due-is : (c : Kept) (o : Bool) (q : List ℕ) (t : ClientTalk) (p : List ℕ) → Accepts (client c) (due o q t) p tt → Accepts (client c) t p tt
+due-is c true q t p a = a
+due-is c false q t p a = a
 
-  limited-of : n + length q ≤ 262 → Accepts (client c) t p tt → Accepts (client c) (limited n q t) p tt
-  limited-of h a = rw (le-leb (n + length q) 262 h) a
-
-due-is : (c : Kept) (o : Bool) (n : ℕ) (q : List ℕ) (t : ClientTalk) (p : List ℕ) → Accepts (client c) (due o n q t) p tt
-    → (o ≡ false → n + length q ≤ 262) × Accepts (client c) t p tt
-due-is c true n q t p a = (λ e. absurd (true≢false e), a)
-due-is c false n q t p a = let r = limited-is c n q t p a in (λ e. r .0, r .1)
-
-due-of : (c : Kept) (o : Bool) (n : ℕ) (q : List ℕ) (t : ClientTalk) (p : List ℕ) → n + length q ≤ 262 → Accepts (client c) t p tt → Accepts (client c) (due o n q t) p tt
-due-of c true n q t p h a = a
-due-of c false n q t p h a = limited-of c n q t p h a
+due-of : (c : Kept) (o : Bool) (q : List ℕ) (t : ClientTalk) (p : List ℕ) → Accepts (client c) t p tt → Accepts (client c) (due o q t) p tt
+due-of c true q t p a = a
+due-of c false q t p a = a
 
 -- ---- from each wait on
 
@@ -104,81 +88,59 @@ last-of : (c : Kept) (e : Reply) (w : List ℕ) → Word e w → Accepts (client
 last-of c e w x = (w, [], sym (append-nil w), message-of c e w x, (refl, refl))
 
 module _ (c : Kept) where
-  noAuth-is : (p : List ℕ) → Bytes p → Accepts (client c) (talkAt c (NegotiationRes NoAuth)) p tt
-      → (a : List ℕ) × (p ≡ 5 ∷ 0 ∷ 5 ∷ 0 ∷ 0 ∷ a) × Bound a × (c .optimistic ≡ false → 3 + length (c .proxy) ≤ 262)
+  noAuth-is : (p : List ℕ) → Bytes p → Accepts (client c) (talkAt c (NegotiationRes NoAuth)) p tt → (a : List ℕ) × (p ≡ 5 ∷ 0 ∷ 5 ∷ 0 ∷ 0 ∷ a) × Bound a
   noAuth-is p y x =
       let (l, e, y′, b) = then-is c (NegotiationRes NoAuth) (λ r. afterMethod NoAuth c) p (5 ∷ 0 ∷ []) y (λ m i. i) x in
-      let (f, d) = due-is c (c .optimistic) 3 (c .proxy) atProxyRes l b in
-      let (a, i, z) = last-is c ProxyRes l y′ d in
-      (a, cc, z, f)
+      let (a, i, z) = last-is c ProxyRes l y′ (due-is c (c .optimistic) (c .proxy) atProxyRes l b) in
+      (a, cc, z)
 
-  userPass-is : (p : List ℕ) → Bytes p → Accepts (client c) (talkAt c (NegotiationRes UserPass)) p tt
-      → (a : List ℕ) × (p ≡ 5 ∷ 2 ∷ 1 ∷ 0 ∷ 5 ∷ 0 ∷ 0 ∷ a) × Bound a × (c .optimistic ≡ false → 3 + length (c .authentication) + length (c .proxy) ≤ 262)
+  userPass-is : (p : List ℕ) → Bytes p → Accepts (client c) (talkAt c (NegotiationRes UserPass)) p tt → (a : List ℕ) × (p ≡ 5 ∷ 2 ∷ 1 ∷ 0 ∷ 5 ∷ 0 ∷ 0 ∷ a) × Bound a
   userPass-is p y x =
       let (l, e, y′, b) = then-is c (NegotiationRes UserPass) (λ r. afterMethod UserPass c) p (5 ∷ 2 ∷ []) y (λ m i. i) x in
-      let (f, d) = due-is c (c .optimistic) 3 (c .authentication) (atAuthenticationRes c) l b in
-      let (l′, e′, y″, b′) = then-is c AuthenticationRes (λ m. due (c .optimistic) (3 + length (c .authentication)) (c .proxy) atProxyRes) l (1 ∷ 0 ∷ []) y′ (λ m i. i) d in
-      let (f′, d′) = due-is c (c .optimistic) (3 + length (c .authentication)) (c .proxy) atProxyRes l′ b′ in
-      let (a, i, z) = last-is c ProxyRes l′ y″ d′ in
-      (a, cc, z, f′)
+      let d = due-is c (c .optimistic) (c .authentication) (atAuthenticationRes c) l b in
+      let (l′, e′, y″, b′) = then-is c AuthenticationRes (λ m. due (c .optimistic) (c .proxy) atProxyRes) l (1 ∷ 0 ∷ []) y′ (λ m i. i) d in
+      let (a, i, z) = last-is c ProxyRes l′ y″ (due-is c (c .optimistic) (c .proxy) atProxyRes l′ b′) in
+      (a, cc, z)
 
-  noAuth-of : (a : List ℕ) → Bound a → 3 + length (c .proxy) ≤ 262 → Accepts (client c) (talkAt c (NegotiationRes NoAuth)) (5 ∷ 0 ∷ 5 ∷ 0 ∷ 0 ∷ a) tt
-  noAuth-of a x h = (
+  noAuth-of : (a : List ℕ) → Bound a → Accepts (client c) (talkAt c (NegotiationRes NoAuth)) (5 ∷ 0 ∷ 5 ∷ 0 ∷ 0 ∷ a) tt
+  noAuth-of a x = (
     5 ∷ 0 ∷ [],
     5 ∷ 0 ∷ 0 ∷ a,
     refl,
     message-of c (NegotiationRes NoAuth) (5 ∷ 0 ∷ []) method-00,
-    due-of c (c .optimistic) 3 (c .proxy) atProxyRes (5 ∷ 0 ∷ 0 ∷ a) h (last-of c ProxyRes (5 ∷ 0 ∷ 0 ∷ a) (connected x)),
+    due-of c (c .optimistic) (c .proxy) atProxyRes (5 ∷ 0 ∷ 0 ∷ a) (last-of c ProxyRes (5 ∷ 0 ∷ 0 ∷ a) (connected x)),
   )
 
-  userPass-of : (a : List ℕ) → Bound a → 3 + length (c .authentication) + length (c .proxy) ≤ 262
-      → Accepts (client c) (talkAt c (NegotiationRes UserPass)) (5 ∷ 2 ∷ 1 ∷ 0 ∷ 5 ∷ 0 ∷ 0 ∷ a) tt
-  userPass-of a x h = (
+  userPass-of : (a : List ℕ) → Bound a → Accepts (client c) (talkAt c (NegotiationRes UserPass)) (5 ∷ 2 ∷ 1 ∷ 0 ∷ 5 ∷ 0 ∷ 0 ∷ a) tt
+  userPass-of a x = (
     5 ∷ 2 ∷ [],
     1 ∷ 0 ∷ 5 ∷ 0 ∷ 0 ∷ a,
     refl,
     message-of c (NegotiationRes UserPass) (5 ∷ 2 ∷ []) method-02,
-    due-of c (c .optimistic) 3 (c .authentication) (atAuthenticationRes c) (1 ∷ 0 ∷ 5 ∷ 0 ∷ 0 ∷ a) (omega arith) (
+    due-of c (c .optimistic) (c .authentication) (atAuthenticationRes c) (1 ∷ 0 ∷ 5 ∷ 0 ∷ 0 ∷ a) (
       1 ∷ 0 ∷ [],
       5 ∷ 0 ∷ 0 ∷ a,
       refl,
       message-of c AuthenticationRes (1 ∷ 0 ∷ []) accepted,
-      due-of c (c .optimistic) (3 + length (c .authentication)) (c .proxy) atProxyRes (5 ∷ 0 ∷ 0 ∷ a) h (last-of c ProxyRes (5 ∷ 0 ∷ 0 ∷ a) (connected x)),
+      due-of c (c .optimistic) (c .proxy) atProxyRes (5 ∷ 0 ∷ 0 ∷ a) (last-of c ProxyRes (5 ∷ 0 ∷ 0 ∷ a) (connected x)),
     ),
   )
 
--- ---- the opening's talk accepts just the sequences, if the requests fit
+-- ---- the opening's talk accepts just the sequences
 
-sequence-is : (o : Opening) (p : List ℕ) → Bytes p → Accepts (side o) (begun o) p tt → Sequence o p × Fits o
-unfolding negotiationReq
-sequence-is (v5 noAuth d port false) p y x =
-    let (a, e, b, f) = noAuth-is (kept (v5 noAuth d port false)) p y x in
-    (rw e (plain b), omega (arith, f refl))
-sequence-is (v5 noAuth d port true) p y x =
-    let (h, x′) = limited-is (kept (v5 noAuth d port true)) 3 (proxyReq d port) _ p x in
-    let (a, e, b, f) = noAuth-is (kept (v5 noAuth d port true)) p y x′ in
-    (rw e (plain b), omega arith)
-sequence-is (v5 (userPass u w) d port false) p y x =
-    let (a, e, b, f) = userPass-is (kept (v5 (userPass u w) d port false)) p y x in
-    (rw e (credentials b), omega (arith, f refl))
-sequence-is (v5 (userPass u w) d port true) p y x =
-    let (h, x′) = limited-is (kept (v5 (userPass u w) d port true)) 3 (authenticationReq u w) _ p x in
-    let (h′, x″) = limited-is (kept (v5 (userPass u w) d port true)) (3 + length (authenticationReq u w)) (proxyReq d port) _ p x′ in
-    let (a, e, b, f) = userPass-is (kept (v5 (userPass u w) d port true)) p y x″ in
-    (rw e (credentials b), omega arith)
-sequence-is (v4 d port) p y x = let (a, e, l) = last-is (kept (v4 d port)) Response p y x in (rw e (version4 l), tt)
+sequence-is : (o : Opening) (p : List ℕ) → Bytes p → Accepts (side o) (begun o) p tt → Sequence o p
+sequence-is (v5 noAuth d port false) p y x = let (a, e, b) = noAuth-is (kept (v5 noAuth d port false)) p y x in rw e (plain b)
+sequence-is (v5 noAuth d port true) p y x = let (a, e, b) = noAuth-is (kept (v5 noAuth d port true)) p y x in rw e (plain b)
+sequence-is (v5 (userPass u w) d port false) p y x = let (a, e, b) = userPass-is (kept (v5 (userPass u w) d port false)) p y x in rw e (credentials b)
+sequence-is (v5 (userPass u w) d port true) p y x = let (a, e, b) = userPass-is (kept (v5 (userPass u w) d port true)) p y x in rw e (credentials b)
+sequence-is (v4 d port) p y x = let (a, e, l) = last-is (kept (v4 d port)) Response p y x in rw e (version4 l)
 
-sequence-of : (o : Opening) (p : List ℕ) → Sequence o p → Fits o → Accepts (side o) (begun o) p tt
-unfolding negotiationReq
-sequence-of _ _ (plain {d} {port} {o = false} {a} b) h = noAuth-of (kept (v5 noAuth d port false)) a b (omega arith)
-sequence-of _ _ (plain {d} {port} {o = true} {a} b) h =
-    limited-of (kept (v5 noAuth d port true)) 3 (proxyReq d port) _ _ (omega arith) (noAuth-of (kept (v5 noAuth d port true)) a b (omega arith))
-sequence-of _ _ (credentials {u} {p} {d} {port} {o = false} {a} b) h = userPass-of (kept (v5 (userPass u p) d port false)) a b (omega arith)
-sequence-of _ _ (credentials {u} {p} {d} {port} {o = true} {a} b) h =
-    limited-of (kept (v5 (userPass u p) d port true)) 3 (authenticationReq u p) _ _ (omega arith)
-    (limited-of (kept (v5 (userPass u p) d port true)) (3 + length (authenticationReq u p)) (proxyReq d port) _ _ (omega arith)
-    (userPass-of (kept (v5 (userPass u p) d port true)) a b (omega arith)))
-sequence-of _ _ (version4 {d} {port} {a} l) h = last-of (kept (v4 d port)) Response (0 ∷ 0x5A ∷ a) (granted l)
+sequence-of : (o : Opening) (p : List ℕ) → Sequence o p → Accepts (side o) (begun o) p tt
+sequence-of _ _ (plain {d} {port} {o = false} {a} b) = noAuth-of (kept (v5 noAuth d port false)) a b
+sequence-of _ _ (plain {d} {port} {o = true} {a} b) = noAuth-of (kept (v5 noAuth d port true)) a b
+sequence-of _ _ (credentials {u} {p} {d} {port} {o = false} {a} b) = userPass-of (kept (v5 (userPass u p) d port false)) a b
+sequence-of _ _ (credentials {u} {p} {d} {port} {o = true} {a} b) = userPass-of (kept (v5 (userPass u p) d port true)) a b
+sequence-of _ _ (version4 {d} {port} {a} l) = last-of (kept (v4 d port)) Response (0 ∷ 0x5A ∷ a) (granted l)
 
 -- ---- the plain machine
 
@@ -190,34 +152,33 @@ outcome-open (ended (failed e)) q = let z : _≡_ {A = ℕ} 0 1 = cc in absurd (
 outcome-feed : (o : Opening) (bs : List ℕ) → machine o bs .outcome ≡ outcomeOf (feed (side o) (begun o) bs .session)
 outcome-feed o bs = ap (λ (m : Machine). m .outcome) (machine-feed o bs)
 
-opened : (o : Opening) (bs p : List ℕ) → Begins p bs → Sequence o p → Fits o → (machine o bs .outcome ≡ Open) × (used o bs ≡ length p)
-opened o bs p b s h =
-    let d = opens (side o) (client-lawful (kept o)) (begun o) bs p tt b (sequence-of o p s h) in
+opened : (o : Opening) (bs p : List ℕ) → Begins p bs → Sequence o p → (machine o bs .outcome ≡ Open) × (used o bs ≡ length p)
+opened o bs p b s =
+    let d = opens (side o) (client-lawful (kept o)) (begun o) bs p tt b (sequence-of o p s) in
     (outcome-feed o bs ∙ rw (d .session), used-feed o bs ∙ rw (d .session) (add-zero _ ∙ d .place))
 
-replied : (o : Opening) (bs : List ℕ) → Bytes bs → machine o bs .outcome ≡ Open → Replied o bs × Fits o
+replied : (o : Opening) (bs : List ℕ) → Bytes bs → machine o bs .outcome ≡ Open → Replied o bs
 replied o bs y q =
     let e = outcome-open (feed (side o) (begun o) bs .session) (sym (outcome-feed o bs) ∙ q) in
     let (p, (f, s), a) = parsed (side o) (client-lawful (kept o)) (begun o) bs tt e in
-    let (x, h) = sequence-is o p (bytes-left p f (rw s at y)) a in
-    ((p, (f, s), x), h)
+    (p, (f, s), sequence-is o p (bytes-left p f (rw s at y)) a)
 
--- open exactly when the bytes begin with a reply sequence and the requests fit
-pub open-just : (o : Opening) (bs : List ℕ) → Bytes bs → machine o bs .outcome ≡ Open ↔ (Replied o bs × Fits o)
-open-just o bs y = (replied o bs y, λ ((p, b, s), h). opened o bs p b s h .0)
+-- open exactly when the bytes begin with a reply sequence
+pub open-just : (o : Opening) (bs : List ℕ) → Bytes bs → machine o bs .outcome ≡ Open ↔ Replied o bs
+open-just o bs y = (replied o bs y, λ (p, b, s). opened o bs p b s .0)
 
 same-beginning : (p p′ bs : List ℕ) → Begins p bs → Begins p′ bs → length p ≡ length p′ → p ≡ p′
 same-beginning p p′ bs (q, b) (q′, b′) l = sym (take-at p q (length p) refl) ∙ ap (take (length p)) (sym b ∙ b′) ∙ take-at p′ q′ (length p) (sym l)
 
 pub open-one : (o : Opening) (bs : List ℕ) → Bytes bs → machine o bs .outcome ≡ Open → JustOne o bs (used o bs)
 open-one o bs y q =
-    let ((p, b, s), h) = replied o bs y q in
-    let n = opened o bs p b s h .1 in
+    let (p, b, s) = replied o bs y q in
+    let n = opened o bs p b s .1 in
     record {
       begin = p;
       begins = b;
       is = s;
-      only = λ p′ b′ s′. same-beginning p′ p bs b′ b (sym (opened o bs p′ b′ s′ h .1) ∙ n);
+      only = λ p′ b′ s′. same-beginning p′ p bs b′ b (sym (opened o bs p′ b′ s′ .1) ∙ n);
       long = n;
     }
 

@@ -1,13 +1,12 @@
 -- The client as a side of a handshake: its stages are the replies that it waits for. Written apart from the plain machine.
-use Prim.Native.Nat.{ℕ, _+_}
-use mathlib.Core.Bool.{Bool, true, false, cond}
+use Prim.Native.Nat.{ℕ}
+use mathlib.Core.Bool.{Bool, true, false}
 use mathlib.Core.List.{List, []}
-use lib.ListN.{length, replicate}
-use lib.Dec.{leb}
+use lib.ListN.{replicate}
 use Rattle.protocol.specs.declared.AuthMethod.{AuthMethod}
 use Rattle.protocol.specs.declared.AuthMethod.the-variants.{NoAuth, UserPass, NoneAcceptable}
 use Rattle.protocol.specs.declared.SocksError.{SocksError}
-use Rattle.protocol.specs.declared.SocksError.the-variants.{WouldOverflow, MethodMismatch, Settled, ShortOutput}
+use Rattle.protocol.specs.declared.SocksError.the-variants.{MethodMismatch, Settled, ShortOutput}
 use Rattle.protocol.specs.declared.Reply.{Reply}
 use Rattle.protocol.specs.declared.Reply.the-variants.{NegotiationRes, AuthenticationRes, ProxyRes, Response}
 use Rattle.protocol.specs.declared.Verdict as code
@@ -32,25 +31,21 @@ pub record Kept : Type 0 where
 abbrev pub ClientTalk : Type 0
 ClientTalk = Talk Reply Unit SocksError
 
--- a request behind so many bytes: sent if all are within the send limit, else the talk fails with 11
-abbrev pub limited : ℕ → List ℕ → ClientTalk → ClientTalk
-limited before q t = cond (leb (before + length q) 262) (send q t) (stop (failed WouldOverflow))
-
 -- plainly a request is sent when it is due; optimistically it went at the opening
-abbrev pub due : Bool → ℕ → List ℕ → ClientTalk → ClientTalk
-due true before q t = t
-due false before q t = limited before q t
+abbrev pub due : Bool → List ℕ → ClientTalk → ClientTalk
+due true q t = t
+due false q t = send q t
 
 abbrev pub atProxyRes : ClientTalk
 atProxyRes = await ProxyRes (λ m. stop (done tt))
 
 abbrev pub atAuthenticationRes : Kept → ClientTalk
-atAuthenticationRes c = await AuthenticationRes (λ m. due (c .optimistic) (3 + length (c .authentication)) (c .proxy) atProxyRes)
+atAuthenticationRes c = await AuthenticationRes (λ m. due (c .optimistic) (c .proxy) atProxyRes)
 
 -- after the reply to a method sent; no session sends NoneAcceptable, and no reply to it is good
 abbrev pub afterMethod : AuthMethod → Kept → ClientTalk
-afterMethod NoAuth c = due (c .optimistic) 3 (c .proxy) atProxyRes
-afterMethod UserPass c = due (c .optimistic) 3 (c .authentication) (atAuthenticationRes c)
+afterMethod NoAuth c = due (c .optimistic) (c .proxy) atProxyRes
+afterMethod UserPass c = due (c .optimistic) (c .authentication) (atAuthenticationRes c)
 afterMethod NoneAcceptable c = stop (failed MethodMismatch)
 
 abbrev pub talkAt : Kept → Reply → ClientTalk
@@ -76,7 +71,6 @@ client c =
       Error = SocksError;
       reads = λ s bs. told (decide s bs);
       talkAt = talkAt c;
-      room = 262;
       over = Settled;
       short = ShortOutput;
     }
@@ -89,14 +83,12 @@ kept (v4 d port) = record { optimistic = false; authentication = authenticationR
 
 -- an opening's talk
 abbrev pub begun : Opening → ClientTalk
-begun (v5 noAuth d port false) = limited 0 (negotiationReq NoAuth) (talkAt (kept (v5 noAuth d port false)) (NegotiationRes NoAuth))
-begun (v5 noAuth d port true) =
-    limited 0 (negotiationReq NoAuth) (limited 3 (proxyReq d port) (talkAt (kept (v5 noAuth d port true)) (NegotiationRes NoAuth)))
-begun (v5 (userPass u p) d port false) = limited 0 (negotiationReq UserPass) (talkAt (kept (v5 (userPass u p) d port false)) (NegotiationRes UserPass))
+begun (v5 noAuth d port false) = send (negotiationReq NoAuth) (talkAt (kept (v5 noAuth d port false)) (NegotiationRes NoAuth))
+begun (v5 noAuth d port true) = send (negotiationReq NoAuth) (send (proxyReq d port) (talkAt (kept (v5 noAuth d port true)) (NegotiationRes NoAuth)))
+begun (v5 (userPass u p) d port false) = send (negotiationReq UserPass) (talkAt (kept (v5 (userPass u p) d port false)) (NegotiationRes UserPass))
 begun (v5 (userPass u p) d port true) =
-    limited 0 (negotiationReq UserPass)
-    (limited 3 (authenticationReq u p)
-    (limited (3 + length (authenticationReq u p)) (proxyReq d port) (talkAt (kept (v5 (userPass u p) d port true)) (NegotiationRes UserPass))))
+    send (negotiationReq UserPass)
+    (send (authenticationReq u p) (send (proxyReq d port) (talkAt (kept (v5 (userPass u p) d port true)) (NegotiationRes UserPass))))
 begun (v4 d port) = send (request d port) (talkAt (kept (v4 d port)) Response)
 
 abbrev pub side : Opening → Side
@@ -106,3 +98,10 @@ abbrev pub outcomeOf : Session Reply Unit SocksError → Outcome
 outcomeOf (waiting s held) = Waiting
 outcomeOf (ended (done x)) = Open
 outcomeOf (ended (failed e)) = Failed e
+
+-- the output that a delivery must lend, told by the reply that is waited for
+abbrev pub room : Reply → ℕ
+room (NegotiationRes m) = 778
+room AuthenticationRes = 778
+room ProxyRes = 778
+room Response = 262

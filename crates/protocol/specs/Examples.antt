@@ -49,7 +49,7 @@ run4 a bs (Refused e) = over4 a bs (fails (number e) (status e)) 0 []
 -- a case as the definitions have it
 abbrev pub computed : Case → Case
 computed (host h s d) = host h (strip h) (destinationOf (strip h))
-computed (over5 a bs r n q) = run5 a bs (check5 262 a)
+computed (over5 a bs r n q) = run5 a bs (check5 778 a)
 computed (over4 a bs r n q) = run4 a bs (check4 1024 a)
 
 -- plain openings, port 443: v5 without credentials, v5 with, v4
@@ -118,12 +118,12 @@ cases =
     ∷ host (text "1:2:3:4:5:6:7::") (text "1:2:3:4:5:6:7::") (ipv6 (0 ∷ 1 ∷ 0 ∷ 2 ∷ 0 ∷ 3 ∷ 0 ∷ 4 ∷ 0 ∷ 5 ∷ 0 ∷ 6 ∷ 0 ∷ 7 ∷ 0 ∷ 0 ∷ []))
     ∷ host (text "1:2:3:4:5:6:7:8::") (text "1:2:3:4:5:6:7:8::") (domain (text "1:2:3:4:5:6:7:8::"))
     ∷ host (text "1.2.3.4::") (text "1.2.3.4::") (domain (text "1.2.3.4::"))
-    -- no credentials: a 252-byte name opens; with 253, `05 00` brings 11 after 3 sent bytes
+    -- no credentials: a 252-byte name opens; with 253, `05 00` brings waiting after 263 sent bytes
     ∷ over5 (open5 (nameOf 252)) (0x05 ∷ 0x00 ∷ success) opens 12 (greeting ++ connectName 252)
-    ∷ over5 (open5 (nameOf 253)) (0x05 ∷ 0x00 ∷ []) (fails 11 0) 2 greeting
-    -- IPv4 with credentials of 246 bytes together sends 262; with 247, 11 after 253 sent bytes
+    ∷ over5 (open5 (nameOf 253)) (0x05 ∷ 0x00 ∷ []) waits 2 (greeting ++ connectName 253)
+    -- IPv4 with credentials of 246 bytes together sends 262; with 247, waiting after 263 sent bytes
     ∷ over5 (signed5 address 123 123) (0x05 ∷ 0x02 ∷ 0x01 ∷ 0x00 ∷ success) opens 14 (greetingSigned ++ (credentials 123 123 ++ connect))
-    ∷ over5 (signed5 address 123 124) (0x05 ∷ 0x02 ∷ 0x01 ∷ 0x00 ∷ success) (fails 11 0) 4 (greetingSigned ++ credentials 123 124)
+    ∷ over5 (signed5 address 123 124) (0x05 ∷ 0x02 ∷ 0x01 ∷ 0x00 ∷ []) waits 4 (greetingSigned ++ (credentials 123 124 ++ connect))
     -- no credentials: `05 02` 13, `05 FF` 12, `05 01` 10
     ∷ over5 (open5 address) (0x05 ∷ 0x02 ∷ []) (fails 13 0) 2 greeting
     ∷ over5 (open5 address) (0x05 ∷ 0xFF ∷ []) (fails 12 0) 2 greeting

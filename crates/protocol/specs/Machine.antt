@@ -1,16 +1,14 @@
 -- Document 01, "The plain machine".
 use Prim.Native.Nat.{ℕ, _+_}
-use mathlib.Core.Bool.{cond}
 use mathlib.Core.List.{List, [], _∷_, _++_}
 use lib.ListN.{length, take, drop}
-use Rattle.protocol.specs.declared.SocksError.the-variants.{WouldOverflow}
 use Rattle.protocol.specs.declared.Reply.{Reply}
 use Rattle.protocol.specs.declared.Verdict.the-variants.{Good, Bad}
 use Rattle.protocol.specs.declared.Decision.{Decision}
 use Rattle.protocol.specs.declared.Decision.the-variants.{Undecided, Decided}
 use Rattle.protocol.specs.declared.Outcome.{Outcome}
 use Rattle.protocol.specs.declared.Outcome.the-variants.{Waiting, Open, Failed}
-use Rattle.protocol.specs.Opening.{Opening, replies, atOpening, later, within}
+use Rattle.protocol.specs.Opening.{Opening, replies, atOpening, later}
 use Rattle.protocol.specs.Replies.{decide}
 
 -- its state; the outcome holds the status
@@ -22,11 +20,10 @@ pub record Machine : Type 0 where
 abbrev pub has : List ℕ → Outcome → ℕ → Machine
 has sent r place = record { sent = sent; outcome = r; place = place }
 
--- it sends requests and goes on; one over the send limit is not sent: it stops, failed with 11
-abbrev pub sends : Opening → List (List ℕ) → List ℕ → ℕ → (List ℕ → Machine) → Machine
-sends o [] sent place on = on sent
-sends o (q ∷ qs) sent place on =
-    cond (within o (length sent + length q)) (sends o qs (sent ++ q) place on) (has sent (Failed WouldOverflow) place)
+-- it sends requests, one after the other
+abbrev pub sends : List (List ℕ) → List ℕ → List ℕ
+sends [] sent = sent
+sends (q ∷ qs) sent = sends qs (sent ++ q)
 
 -- a reply read on from the place. Undecided: it stops, waiting. Otherwise the place moves. Bad: it stops, failed. Good: it goes on
 abbrev pub reads : Decision → List ℕ → ℕ → (ℕ → Machine) → Machine
@@ -35,15 +32,14 @@ reads (Decided n Good) sent place on = on (place + n)
 reads (Decided n (Bad e)) sent place on = has sent (Failed e) (place + n)
 
 -- for each expected reply in turn; after a good one it sends what is due, the next request if one is left; after the last it is open
-unfoldable pub run : Opening → List Reply → List (List ℕ) → List ℕ → ℕ → List ℕ → Machine
-run o [] left sent place bs = has sent Open place
-run o (e ∷ es) left sent place bs =
-    reads (decide e (drop place bs)) sent place
-    (λ place′. sends o (take 1 left) sent place′ (λ sent′. run o es (drop 1 left) sent′ place′ bs))
+unfoldable pub run : List Reply → List (List ℕ) → List ℕ → ℕ → List ℕ → Machine
+run [] left sent place bs = has sent Open place
+run (e ∷ es) left sent place bs =
+    reads (decide e (drop place bs)) sent place (λ place′. run es (drop 1 left) (sends (take 1 left) sent) place′ bs)
 
 -- it starts at place 0 and sends what goes at the opening
 unfoldable pub machine : Opening → List ℕ → Machine
-machine o bs = sends o (atOpening o) [] 0 (λ sent. run o (replies o) (later o) sent 0 bs)
+machine o bs = run (replies o) (later o) (sends (atOpening o) []) 0 bs
 
 -- its used bytes: all while waiting, otherwise up to the place
 abbrev pub usedBy : Outcome → ℕ → List ℕ → ℕ

@@ -1,9 +1,12 @@
--- Document 01's number and status of each refusal and failure, and its number of an answer.
+-- Document 01's number and status of each refusal and failure, and its numbers of an answer and of an outcome.
 use Prim.Native.Nat.{ℕ}
 use Rattle.protocol.specs.declared.Answer.{Answer}
 use Rattle.protocol.specs.declared.Answer.the-variants.{Accepted, Refused}
+use Rattle.protocol.specs.declared.Outcome.{Outcome}
+use Rattle.protocol.specs.declared.Outcome.the-variants as Out
+use Rattle.protocol.specs.declared.Outcome.the-variants.{Waiting, Open}
 use Rattle.protocol.specs.declared.SocksError.{SocksError}
-use Rattle.protocol.specs.declared.SocksError.the-variants.{ShortOutput, MissingHost, HostByte, MissingPort, CredentialTooLong, HostTooLong, IpV6, DnsFailure, UnexpectedEof, Parsing, WouldOverflow, Unsupported, MethodMismatch, Failed, Command, Settled}
+use Rattle.protocol.specs.declared.SocksError.the-variants.{ShortOutput, MissingHost, HostByte, MissingPort, CredentialTooLong, HostTooLong, IpV6, DnsFailure, UnexpectedEof, Parsing, Unsupported, MethodMismatch, Failed, Command, Settled}
 
 -- number and status; the status is 0 except with 15
 abbrev pub numbers : SocksError → ℕ × ℕ
@@ -17,7 +20,6 @@ numbers IpV6 = (7, 0)
 numbers DnsFailure = (8, 0)
 numbers UnexpectedEof = (9, 0)
 numbers Parsing = (10, 0)
-numbers WouldOverflow = (11, 0)
 numbers Unsupported = (12, 0)
 numbers MethodMismatch = (13, 0)
 numbers Failed = (14, 0)
@@ -34,3 +36,9 @@ status e = numbers e .1
 abbrev pub answerNumber : Answer → ℕ
 answerNumber Accepted = 0
 answerNumber (Refused e) = number e
+
+-- an outcome: 0 for open and for waiting, which is no failure
+abbrev pub outcomeNumber : Outcome → ℕ
+outcomeNumber Waiting = 0
+outcomeNumber Open = 0
+outcomeNumber (Out.Failed e) = number e

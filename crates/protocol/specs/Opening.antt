@@ -1,12 +1,12 @@
 -- Document 01, "Opening v5" and "Opening v4": the arguments, the checks in their order, and what an accepted opening asks and expects.
-use Prim.Native.Nat.{ℕ, _+_, _≤_, _<_}
+use Prim.Native.Nat.{ℕ, _≤_, _<_}
 use mathlib.Core.Path.{_≡_}
 use mathlib.Core.Logic.{_↔_, _⊎_}
 use mathlib.Core.Option.{Option, none, some}
 use mathlib.Core.Bool.{Bool, true, false, cond, _&&_, _||_, not}
 use mathlib.Core.List.{List, [], _∷_}
 use lib.ListN.{length, take, drop}
-use lib.Dec.{ltb, leb, eqb}
+use lib.Dec.{ltb, eqb}
 use Rattle.protocol.specs.declared.AuthMethod.the-variants.{NoAuth, UserPass}
 use Rattle.protocol.specs.declared.Port.{Port}
 use Rattle.protocol.specs.declared.Port.the-variants.{Missing, Given}
@@ -72,7 +72,7 @@ _↣_ P n = record { Holds = P; number = n }
 infixr 6 _↣_
 abbrev pub conditions5 : ℕ → V5 → List Condition
 conditions5 room a =
-    ((room < 262) ↣ 1)
+    ((room < 778) ↣ 1)
     ∷ (((a .host ≡ []) ⊎ (strip (a .host) ≡ [])) ↣ 2)
     ∷ (Forbidden (strip (a .host)) ↣ 3)
     ∷ ((a .port ≡ Missing) ↣ 4)
@@ -135,7 +135,7 @@ isNone (some a) = false
 
 unfoldable pub check5 : ℕ → V5 → Answer
 check5 room a =
-    refuse (ltb room 262) ShortOutput
+    refuse (ltb room 778) ShortOutput
     (refuse (isEmpty (a .host) || isEmpty (strip (a .host))) MissingHost
     (refuse (not (allAllowed (strip (a .host)))) HostByte
     (refuse (isMissing (a .port)) MissingPort
@@ -224,16 +224,15 @@ atOpening o = cond (optimistic o) (requests o) (take 1 (requests o))
 abbrev pub later : Opening → List (List ℕ)
 later o = cond (optimistic o) [] (drop 1 (requests o))
 
--- Send limit: whether so many bytes in all may be sent
-abbrev pub within : Opening → ℕ → Bool
-within (v5 c d port o) n = leb n 262
-within (v4 d port) n = true
+-- ---- F-4: each request has a limit of its own
 
-abbrev pub lengths : List (List ℕ) → ℕ
-lengths [] = 0
-lengths (q ∷ qs) = length q + lengths qs
+-- the output that a delivery must lend, by the version: what all requests of v5 together have at most; 262 over v4
+abbrev pub deliveryRoom : Opening → ℕ
+deliveryRoom (v5 c d port o) = 778
+deliveryRoom (v4 d port) = 262
 
--- the requests fit the send limit
-abbrev pub Fits : Opening → Type 0
-Fits (v5 c d port o) = lengths (requests (v5 c d port o)) ≤ 262
-Fits (v4 d port) = Unit {0}
+-- 3 bytes for a greeting, 513 for credentials, 262 for a connect; 1,024 over v4
+abbrev pub Limits : Opening → Type 0
+Limits (v5 noAuth d port o) = (length (negotiationReq NoAuth) ≡ 3) × (length (proxyReq d port) ≤ 262)
+Limits (v5 (userPass u p) d port o) = (length (negotiationReq UserPass) ≡ 3) × (length (authenticationReq u p) ≤ 513) × (length (proxyReq d port) ≤ 262)
+Limits (v4 d port) = length (request d port) ≤ 1024

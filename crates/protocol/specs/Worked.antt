@@ -1,6 +1,6 @@
 -- Worked openings, by document 01's own words: the whole bytes of each request, and each number that an opening is refused with.
 use Prim.Native.Nat.{ℕ}
-use mathlib.Core.Bool.{Bool, true, false}
+use mathlib.Core.Bool.{true, false}
 use mathlib.Core.List.{List, [], _∷_, _++_}
 use lib.ListN.{replicate}
 use Rattle.protocol.specs.declared.Port.{Port}
@@ -101,16 +101,16 @@ worked =
     ∷ asks4 (plain4 name port) ((0x04 ∷ 0x01 ∷ 0x1F ∷ 0x90 ∷ 0x00 ∷ 0x00 ∷ 0x00 ∷ 0xFF ∷ 0x00 ∷ (name ++ (0x00 ∷ []))) ∷ [])
     ∷ asks4 (looked4 name port (six ∷ four ∷ [])) ((0x04 ∷ 0x01 ∷ 0x1F ∷ 0x90 ∷ 0xC6 ∷ 0x33 ∷ 0x64 ∷ 0x09 ∷ 0x00 ∷ []) ∷ [])
     -- v5 refused with each of its numbers, and accepted
-    ∷ answers5 261 (plain5 [] port) 1
-    ∷ answers5 262 (plain5 [] Missing) 2
-    ∷ answers5 262 (plain5 (text "[]") port) 2
-    ∷ answers5 262 (plain5 (0x20 ∷ []) Missing) 3
-    ∷ answers5 262 (signed5 name Missing (replicate 256 0x75) []) 4
-    ∷ answers5 262 (signed5 (nameOf 256) port (replicate 256 0x75) []) 5
-    ∷ answers5 262 (signed5 name port [] (replicate 256 0x70)) 5
-    ∷ answers5 262 (looked5 (nameOf 256) port []) 6
-    ∷ answers5 262 (looked5 name port []) 8
-    ∷ answers5 262 (plain5 name port) 0
+    ∷ answers5 777 (plain5 [] port) 1
+    ∷ answers5 778 (plain5 [] Missing) 2
+    ∷ answers5 778 (plain5 (text "[]") port) 2
+    ∷ answers5 778 (plain5 (0x20 ∷ []) Missing) 3
+    ∷ answers5 778 (signed5 name Missing (replicate 256 0x75) []) 4
+    ∷ answers5 778 (signed5 (nameOf 256) port (replicate 256 0x75) []) 5
+    ∷ answers5 778 (signed5 name port [] (replicate 256 0x70)) 5
+    ∷ answers5 778 (looked5 (nameOf 256) port []) 6
+    ∷ answers5 778 (looked5 name port []) 8
+    ∷ answers5 778 (plain5 name port) 0
     -- v4 refused with each of its numbers, and accepted
     ∷ answers4 1023 (plain4 [] port) 1
     ∷ answers4 1024 (plain4 [] Missing) 2

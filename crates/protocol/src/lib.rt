@@ -57,7 +57,6 @@ pub enum SocksError {
     DnsFailure,
     UnexpectedEof,
     Parsing,
-    WouldOverflow,
     Unsupported,
     MethodMismatch,
     Failed,

@@ -1,54 +1,36 @@
 -- A request that is due: gone already, over the limit, or sent.
-use Prim.Native.Nat.{ℕ, _+_, _≤_, _<_}
+use Prim.Native.Nat.{ℕ, _+_, _≤_}
 use native.Mathlib.Nat.{add-zero}
 use native.Mathlib.Omega.{arith}
-use mathlib.Core.Path.{_≡_, refl, ap, sym, _∙_, subst}
+use mathlib.Core.Path.{_≡_, ap, sym, _∙_, subst}
 use mathlib.Core.Bool.{Bool, true, false, _&&_}
 use mathlib.Core.List.{List, [], _++_}
 use lib.ListN.{length, take, drop, length-take, take-append-drop}
 use lib.Dec.{leb}
-use borrow.Author.Tests.{le-leb, lt-leb}
+use borrow.Author.Tests.{le-leb}
 use Rattle.protocol.specs.declared.AddressKind.{AddressKind}
 use Rattle.protocol.specs.declared.AddressKind.the-variants.{Ipv4, Ipv6, Domain}
-use Rattle.protocol.specs.declared.Reply.{Reply}
-use Rattle.protocol.specs.declared.SocksError.the-variants.{WouldOverflow as Overflow}
 use Rattle.protocol.specs.Requests.{authenticationReq, proxyReq, kindOf}
 use Rattle.requests_v5.specs.Sizes.{addressSize}
 use Rattle.wire.specs.declared.Written.{Written}
-use Rattle.wire.specs.declared.Written.the-variants.{At, WouldOverflow}
 use Rattle.wire.specs.Written.{overwrite, Wrote, Writes}
-use Rattle.wire.proofs.Laws.{fitted, at-place}
 use Rattle.requests_v5.proofs.Sizes.{proxy-size}
-use Rattle.sending.specs.declared.Stage.the-variants.{Awaiting, Failed}
-use Rattle.sending.specs.Due.{dueAt, Sends}
+use Rattle.protocol.proofs.Limits.{credentials-limit}
+use Rattle.sending.specs.declared.Kept.{Kept}
+use Rattle.sending.specs.Stages.{requestsOf, Limited}
+use Rattle.sending.specs.Due.{unlessGone}
 
 pub wrote-none : (out : List ℕ) (at : ℕ) → at ≤ length out → Wrote out at [] at out
 unfolding overwrite
 wrote-none out at h =
     record { inside = omega arith; place = sym (add-zero at); bytes = sym (ap (λ (n : ℕ). take at out ++ drop n out) (add-zero at) ∙ take-append-drop at out) }
 
--- a writer that has room writes
-same-place : {r : Written} {n m : ℕ} → r ≡ At n → r ≡ At m → n ≡ m
-same-place p q = cc
+-- what went at the opening is not sent again
+pub gone : {o : Bool} (q out : List ℕ) (at : ℕ) → o ≡ true → at ≤ length out → Wrote out at (unlessGone o q) at out
+gone q out at g h = rw g (wrote-none out at h)
 
-pub written-at : {out out′ bs : List ℕ} {at next : ℕ} {r : Written} → Writes true out at bs r out′ → at + length bs ≤ length out → r ≡ At next → Wrote out at bs next out′
-written-at w h e = let f = fitted w h in record { inside = h; place = same-place e (at-place w h); bytes = f .bytes }
-
-never : {r : Written} {n : ℕ} → r ≡ At n → r ≡ WouldOverflow → ⊥
-never p q = let z : _≡_ {A = ℕ} 0 1 = cc in omega arith
-
-pub unreached : {out out′ bs : List ℕ} {at : ℕ} {r : Written} → Writes true out at bs r out′ → at + length bs ≤ length out → r ≡ WouldOverflow → ⊥
-unreached w h e = never (at-place w h) e
-
-module _ {o : Bool} (before : ℕ) (q : List ℕ) (e : Reply) (out : List ℕ) (at : ℕ) where
-  pub gone : o ≡ true → at ≤ length out → Sends (dueAt o before q e) out at (Awaiting e) at out
-  gone g h = rw g (record { staged = refl; wrote = wrote-none out at h })
-
-  pub over : o ≡ false → 262 < before + length q → at ≤ length out → Sends (dueAt o before q e) out at (Failed Overflow) at out
-  over g l h = rw (g, lt-leb (before + length q) 262 l) (record { staged = refl; wrote = wrote-none out at h })
-
-  pub sent : o ≡ false → before + length q ≤ 262 → {next : ℕ} {out′ : List ℕ} → Wrote out at q next out′ → Sends (dueAt o before q e) out at (Awaiting e) next out′
-  sent g l w = rw (g, le-leb (before + length q) 262 l) (record { staged = refl; wrote = w })
+pub goes : {o : Bool} {q out out′ : List ℕ} {at next : ℕ} → o ≡ false → Wrote out at q next out′ → Wrote out at (unlessGone o q) next out′
+goes g w = rw g w
 
 kind-small : (k : AddressKind) (n : ℕ) → addressSize k n ≤ n + 2
 kind-small Ipv4 n = omega arith
@@ -58,6 +40,15 @@ kind-small Domain n = omega arith
 -- a ProxyReq has at most 262 bytes
 pub proxy-small : (k : AddressKind) (n : ℕ) (bs : List ℕ) (port : ℕ) → n ≤ 255 → length (proxyReq (kindOf k (take n bs)) port) ≤ 262
 proxy-small k n bs port h = omega (arith, proxy-size k (take n bs) port, kind-small k (length (take n bs)), length-take n bs)
+
+-- and an AuthenticationReq at most 513
+pub authentication-small : (u p : List ℕ) (n m : ℕ) → n ≤ 255 → m ≤ 255 → length (authenticationReq (take n u) (take m p)) ≤ 513
+authentication-small u p n m h k = credentials-limit (take n u) (take m p) (omega (arith, length-take n u)) (omega (arith, length-take m p))
+
+-- F-4: whatever a session value keeps, each request is within its limit; its counts are bytes
+pub kept-limits : (k : Kept) → k .«user_len» ≤ 255 → k .«password_len» ≤ 255 → k .address .len ≤ 255
+    → Limited (requestsOf k)
+kept-limits k h i j = record { authentication = authentication-small (k .user) (k .password) (k .«user_len») (k .«password_len») h i; proxy = proxy-small (k .address .kind) (k .address .len) (k .address .bytes) (k .address .port) j }
 
 -- two parts of arrays of 255, as many bytes as numbers equal to their counts say
 pub kept-writes : (u p : List ℕ) {i j n m : ℕ} {out out′ : List ℕ} {at : ℕ} {r : Written} → n ≡ i → m ≡ j → length u ≡ 255 → length p ≡ 255

@@ -1,7 +1,7 @@
 -- The stages of a session, and the session of a handshake's side that a stage stands for.
-use Prim.Native.Nat.{ℕ}
+use Prim.Native.Nat.{ℕ, _≤_}
 use mathlib.Core.List.{List}
-use lib.ListN.{take}
+use lib.ListN.{length, take}
 use Rattle.protocol.specs.declared.Reply.{Reply}
 use Rattle.protocol.specs.declared.Reply.the-variants.{NegotiationRes, AuthenticationRes, ProxyRes, Response}
 use Rattle.protocol.specs.declared.SocksError.{SocksError}
@@ -46,3 +46,8 @@ rank (Awaiting ProxyRes) = 1
 rank (Awaiting Response) = 1
 rank Open = 0
 rank (Failed x) = 0
+
+-- the limits of the requests that may still be due
+pub record Limited (c : client.Kept) : Type 0 where
+  pub authentication : length (c .authentication) ≤ 513
+  pub proxy : length (c .proxy) ≤ 262

@@ -1,12 +1,11 @@
-// What a good reply makes due, sent: requests written from what a session keeps, each within the send limit.
+// What a good reply makes due, sent: requests written from what a session keeps.
 ghost use mathlib.Core.Path.{_≡_};
 ghost use mathlib.Core.Bool.{true};
 ghost use Prim.Native.Nat.{_+_, _≤_};
 ghost use lib.ListN.{length};
-ghost use Rattle.protocol.specs.declared.Reply.the-variants as Reply;
-ghost use Rattle.wire.specs.Written.{Writes};
+ghost use Rattle.wire.specs.Written.{Wrote, Writes};
 ghost use Rattle.sending.specs.Stages.{requestsOf};
-ghost use Rattle.sending.specs.Due.{dueAt, dueMethod, dueAfter, dueJudged, sentBefore, Sends};
+ghost use Rattle.sending.specs.Due.{unlessGone, dueMethod, dueAfter, dueJudged, stillDue, Sends};
 ghost use Rattle.sending.specs.declared.Stage.the-variants as Stage;
 use protocol::Address;
 use protocol::AuthMethod;
@@ -14,6 +13,7 @@ use protocol::Reply;
 use protocol::SocksError;
 use protocol::Verdict;
 use wire::Written;
+use wire::place;
 
 // Which reply a session waits for, or how it ended.
 pub enum Stage {
@@ -38,47 +38,19 @@ pub struct Due {
     pub sent: usize,
 }
 
-// The ProxyReq, if it is due and within the send limit.
-pub fn send_proxy(kept: Kept, before: usize, out: &mut [u8], at: usize) -> Due
-    requires { ⌜ (before ≤ 516) × (at ≤ before) × (at ≤ length (now out)) × (262 ≤ length (now out)) ⌝ }
-    ensures { λ r. ⌜ Sends (dueAt (kept .optimistic) before (requestsOf kept .proxy) Reply.ProxyRes) (now (out .entry)) at (r .stage) (r .sent) (now (out .exit)) ⌝ }
+// The ProxyReq of what is kept, and the place behind it.
+pub fn put_proxy(kept: Kept, out: &mut [u8], at: usize) -> usize
+    requires { ⌜ at + 262 ≤ length (now out) ⌝ }
+    ensures { λ r. ⌜ Wrote (now (out .entry)) at (requestsOf kept .proxy) r (now (out .exit)) ⌝ }
 {
-    if kept.optimistic {
-        return Due {
-            stage: Stage::Awaiting(Reply::ProxyRes),
-            sent: at,
-        };
-    }
     let address = kept.address;
-    if 262 < before + requests_v5::proxy_req_len(address) {
-        return Due {
-            stage: Stage::Failed(SocksError::WouldOverflow),
-            sent: at,
-        };
-    }
-    match requests_v5::write_proxy_req(out, at, address) {
-        Written::At(next) => Due {
-            stage: Stage::Awaiting(Reply::ProxyRes),
-            sent: next,
-        },
-        Written::WouldOverflow => Due {
-            stage: Stage::Failed(SocksError::WouldOverflow),
-            sent: at,
-        },
-    }
+    place(requests_v5::write_proxy_req(out, at, address), at)
 }
 
 fn wide(b: u8) -> usize
     ensures { λ r. ⌜ r ≡ b ⌝ }
 {
     b as usize
-}
-
-// How many bytes the AuthenticationReq has.
-pub fn authentication_len(kept: Kept) -> usize
-    ensures { λ r. ⌜ (r ≡ length (requestsOf kept .authentication)) × (r ≤ 513) ⌝ }
-{
-    3 + (wide(kept.user_len) + wide(kept.password_len))
 }
 
 // The AuthenticationReq of what is kept.
@@ -92,42 +64,49 @@ fn write_authentication(kept: Kept, out: &mut [u8], at: usize) -> Written
     requests_v5::write_authentication_req(out, at, &user[..n], &password[..m])
 }
 
-// The AuthenticationReq, if it is due and within the send limit.
-pub fn send_authentication(kept: Kept, out: &mut [u8], at: usize) -> Due
-    requires { ⌜ (at ≤ 3) × (262 ≤ length (now out)) ⌝ }
-    ensures { λ r. ⌜ Sends (dueAt (kept .optimistic) 3 (requestsOf kept .authentication) Reply.AuthenticationRes) (now (out .entry)) at (r .stage) (r .sent) (now (out .exit)) ⌝ }
+// The AuthenticationReq of what is kept, and the place behind it.
+pub fn put_authentication(kept: Kept, out: &mut [u8], at: usize) -> usize
+    requires { ⌜ at + 513 ≤ length (now out) ⌝ }
+    ensures { λ r. ⌜ Wrote (now (out .entry)) at (requestsOf kept .authentication) r (now (out .exit)) ⌝ }
+{
+    place(write_authentication(kept, out, at), at)
+}
+
+// The ProxyReq, if it is due.
+fn send_proxy(kept: Kept, out: &mut [u8], at: usize) -> usize
+    requires { ⌜ at + 262 ≤ length (now out) ⌝ }
+    ensures { λ r. ⌜ Wrote (now (out .entry)) at (unlessGone (kept .optimistic) (requestsOf kept .proxy)) r (now (out .exit)) ⌝ }
 {
     if kept.optimistic {
-        return Due {
-            stage: Stage::Awaiting(Reply::AuthenticationRes),
-            sent: at,
-        };
+        return at;
     }
-    if 262 < 3 + authentication_len(kept) {
-        return Due {
-            stage: Stage::Failed(SocksError::WouldOverflow),
-            sent: at,
-        };
+    put_proxy(kept, out, at)
+}
+
+// The AuthenticationReq, if it is due.
+fn send_authentication(kept: Kept, out: &mut [u8], at: usize) -> usize
+    requires { ⌜ at + 513 ≤ length (now out) ⌝ }
+    ensures { λ r. ⌜ Wrote (now (out .entry)) at (unlessGone (kept .optimistic) (requestsOf kept .authentication)) r (now (out .exit)) ⌝ }
+{
+    if kept.optimistic {
+        return at;
     }
-    match write_authentication(kept, out, at) {
-        Written::At(next) => Due {
-            stage: Stage::Awaiting(Reply::AuthenticationRes),
-            sent: next,
-        },
-        Written::WouldOverflow => Due {
-            stage: Stage::Failed(SocksError::WouldOverflow),
-            sent: at,
-        },
-    }
+    put_authentication(kept, out, at)
 }
 
 fn send_after_method(kept: Kept, method: AuthMethod, out: &mut [u8], at: usize) -> Due
-    requires { ⌜ (at ≡ 0) × (262 ≤ length (now out)) ⌝ }
+    requires { ⌜ at + 775 ≤ length (now out) ⌝ }
     ensures { λ r. ⌜ Sends (dueMethod (requestsOf kept) method) (now (out .entry)) at (r .stage) (r .sent) (now (out .exit)) ⌝ }
 {
     match method {
-        AuthMethod::NoAuth => send_proxy(kept, 3, out, at),
-        AuthMethod::UserPass => send_authentication(kept, out, at),
+        AuthMethod::NoAuth => Due {
+            stage: Stage::Awaiting(Reply::ProxyRes),
+            sent: send_proxy(kept, out, at),
+        },
+        AuthMethod::UserPass => Due {
+            stage: Stage::Awaiting(Reply::AuthenticationRes),
+            sent: send_authentication(kept, out, at),
+        },
         AuthMethod::NoneAcceptable => Due {
             stage: Stage::Failed(SocksError::MethodMismatch),
             sent: at,
@@ -137,15 +116,15 @@ fn send_after_method(kept: Kept, method: AuthMethod, out: &mut [u8], at: usize) 
 
 // What a good reply makes due.
 fn send_after(kept: Kept, reply: Reply, out: &mut [u8], at: usize) -> Due
-    requires { ⌜ (at + 3 ≤ sentBefore (requestsOf kept) (Stage.Awaiting reply)) × (262 ≤ length (now out)) ⌝ }
+    requires { ⌜ at + stillDue (Stage.Awaiting reply) ≤ length (now out) ⌝ }
     ensures { λ r. ⌜ Sends (dueAfter (requestsOf kept) reply) (now (out .entry)) at (r .stage) (r .sent) (now (out .exit)) ⌝ }
 {
     match reply {
         Reply::NegotiationRes(method) => send_after_method(kept, method, out, at),
-        Reply::AuthenticationRes => {
-            let before = 3 + authentication_len(kept);
-            send_proxy(kept, before, out, at)
-        }
+        Reply::AuthenticationRes => Due {
+            stage: Stage::Awaiting(Reply::ProxyRes),
+            sent: send_proxy(kept, out, at),
+        },
         Reply::ProxyRes => Due {
             stage: Stage::Open,
             sent: at,
@@ -159,7 +138,7 @@ fn send_after(kept: Kept, reply: Reply, out: &mut [u8], at: usize) -> Due
 
 // What a verdict makes due.
 pub fn send_judged(kept: Kept, reply: Reply, verdict: Verdict, out: &mut [u8], at: usize) -> Due
-    requires { ⌜ (at + 3 ≤ sentBefore (requestsOf kept) (Stage.Awaiting reply)) × (262 ≤ length (now out)) ⌝ }
+    requires { ⌜ at + stillDue (Stage.Awaiting reply) ≤ length (now out) ⌝ }
     ensures { λ r. ⌜ Sends (dueJudged (requestsOf kept) reply verdict) (now (out .entry)) at (r .stage) (r .sent) (now (out .exit)) ⌝ }
 {
     match verdict {

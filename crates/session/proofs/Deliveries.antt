@@ -13,7 +13,7 @@ use Rattle.protocol.specs.declared.Answer.the-variants.{Accepted, Refused}
 use Rattle.protocol.specs.declared.Outcome.the-variants as Out
 use Rattle.protocol.specs.declared.SocksError.{SocksError}
 use Rattle.protocol.specs.declared.SocksError.the-variants.{ShortOutput, UnexpectedEof, Settled}
-use Rattle.protocol.specs.Client.{talkAt, client}
+use Rattle.protocol.specs.Client.{talkAt, client, room}
 use Rattle.wire.specs.Written.{overwrite, Wrote}
 use Rattle.wire.proofs.Laws.{wrote-length}
 use Rattle.sending.specs.declared.Stage.{Stage}
@@ -22,7 +22,7 @@ use Rattle.sending.specs.declared.Kept.{Kept}
 use Rattle.session.specs.declared.Session.{Session}
 use Rattle.session.specs.declared.Delivered.{Delivered}
 use Rattle.sending.specs.Stages.{SideSession, requestsOf, viewAt}
-use Rattle.session.specs.Session.{sideOf, heldBytes, view, packed, outcome}
+use Rattle.session.specs.Session.{sideOf, heldBytes, view, packed, outcome, roomAt}
 use Rattle.sending.specs.Stages.{SideFed}
 use Rattle.session.specs.Calls.{refusal, delivered, Delivers, endedBy, moves, takes, deliver, end}
 use Rattle.sending.specs.Stages.{rank}
@@ -120,13 +120,13 @@ module _ (s : Session) (piece out : List ℕ) {r : Delivered} where
   unfolding deliver
   deliver-settled z e = rw (is-over (s .stage) (heldBytes s) z) (record { returned = e; output = refl; inside = rw e zero-le; within = rw e zero-le })
 
-  pub deliver-short : {w : Reply} → s .stage ≡ Awaiting w → length out < 262 → r ≡ delivered (refusal ShortOutput s []) → Delivers (deliver s piece out) piece r out
+  pub deliver-short : {w : Reply} → s .stage ≡ Awaiting w → length out < room w → r ≡ delivered (refusal ShortOutput s []) → Delivers (deliver s piece out) piece r out
   unfolding deliver
-  deliver-short q h e = rw (waits-on (heldBytes s) q, lt-leb 262 (length out) h) (record { returned = e; output = refl; inside = rw e zero-le; within = rw e zero-le })
+  deliver-short {w} q h e = rw (waits-on (heldBytes s) q, ap roomAt q, lt-leb (room w) (length out) h) (record { returned = e; output = refl; inside = rw e zero-le; within = rw e zero-le })
 
-  pub deliver-takes : {w : Reply} {out′ : List ℕ} → s .stage ≡ Awaiting w → 262 ≤ length out → Delivers (takes s piece out) piece r out′ → Delivers (deliver s piece out) piece r out′
+  pub deliver-takes : {w : Reply} {out′ : List ℕ} → s .stage ≡ Awaiting w → room w ≤ length out → Delivers (takes s piece out) piece r out′ → Delivers (deliver s piece out) piece r out′
   unfolding deliver
-  deliver-takes q h d = rw (waits-on (heldBytes s) q, le-leb 262 (length out) h) d
+  deliver-takes {w} q h d = rw (waits-on (heldBytes s) q, ap roomAt q, le-leb (room w) (length out) h) d
 
 module _ (s : Session) where
   pub end-settled : rank (s .stage) ≡ 0 → record { answer = Refused Settled; session = s } ≡ endedBy (end s)

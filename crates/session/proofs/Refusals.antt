@@ -16,7 +16,7 @@ use Rattle.protocol.specs.AddressText.{Name}
 use Rattle.protocol.specs.Opening.{V5, V4, conditions5, conditions4, Answers, check5, check4, Opening, opening5, opening4}
 use Rattle.protocol.proofs.Openings.{check5-just, check4-just, lookup5, lookup4}
 use Rattle.session.specs.declared.Session.{Session}
-use Rattle.session.specs.Session.{view, packed}
+use Rattle.session.specs.Session.{view, packed, roomAt}
 use Rattle.protocol.specs.Numbers.{answerNumber}
 use Rattle.session.specs.Calls.{Call, refusal, nothingKept, emptySession, openBy, open5, open4, takes, deliver, end}
 use Rattle.talk.specs.Talk.{failed, ended, isOver}
@@ -80,7 +80,7 @@ module _ (s : Session) (piece out : List ℕ) where
 
   pub deliver-refuses : (e : SocksError) → deliver s piece out .answer ≡ Refused e → deliver s piece out ≡ refusal e s out
   unfolding deliver
-  deliver-refuses e p = go (isOver (view s)) (leb 262 (length out)) p
+  deliver-refuses e p = go (isOver (view s)) (leb (roomAt (s .stage)) (length out)) p
     where
       go : (a b : Bool) → delivers a b .answer ≡ Refused e → delivers a b ≡ refusal e s out
       go true b p = rw (same-error p)
@@ -88,9 +88,9 @@ module _ (s : Session) (piece out : List ℕ) where
       go false false p = rw (same-error p)
 
   -- 16 for a settled session, then 1 for too little output
-  pub deliver-number : answerNumber (deliver s piece out .answer) ≡ cond (isOver (view s)) 16 (cond (leb 262 (length out)) 0 1)
+  pub deliver-number : answerNumber (deliver s piece out .answer) ≡ cond (isOver (view s)) 16 (cond (leb (roomAt (s .stage)) (length out)) 0 1)
   unfolding deliver
-  deliver-number = go (isOver (view s)) (leb 262 (length out))
+  deliver-number = go (isOver (view s)) (leb (roomAt (s .stage)) (length out))
     where
       go : (a b : Bool) → answerNumber (delivers a b .answer) ≡ cond a 16 (cond b 0 1)
       go true b = refl

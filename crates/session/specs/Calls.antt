@@ -20,7 +20,7 @@ use Rattle.session.specs.declared.Session.{Session}
 use Rattle.session.specs.declared.Opened.{Opened}
 use Rattle.session.specs.declared.Delivered.{Delivered}
 use Rattle.session.specs.declared.Ended.{Ended}
-use Rattle.session.specs.Session.{sideOf, view, packed}
+use Rattle.session.specs.Session.{sideOf, view, packed, roomAt}
 use Rattle.talk.specs.Talk.{failed, ended, feed, onward, heldBy, isOver, reached}
 use Rattle.talk.specs.Tunnel.{Answer, Receiver}
 use Rattle.sending.specs.Stages.{SideFed}
@@ -122,10 +122,11 @@ takes s (b ∷ bs) out = moves s (onward (sideOf s) (view s) (b ∷ bs)) out
 unfoldable pub deliver : Session → List ℕ → List ℕ → Call
 deliver s piece out =
     cond (isOver (view s)) (refusal Settled s out)
-    (cond (leb 262 (length out)) (takes s piece out) (refusal ShortOutput s out))
+    (cond (leb (roomAt (s .stage)) (length out)) (takes s piece out) (refusal ShortOutput s out))
 
-abbrev pub receiver : Receiver Session code.Answer
-receiver = record { room = 262; deliver = deliver }
+-- sessions take deliveries, of which those count that lend so much output
+abbrev pub receiver : ℕ → Receiver Session code.Answer
+receiver room = record { room = room; deliver = deliver }
 
 -- ---- End of stream
 

@@ -4,6 +4,8 @@ use mathlib.Core.List.{List, _++_}
 use lib.ListN.{length, take, drop}
 use Rattle.protocol.specs.declared.Outcome.{Outcome}
 use Rattle.protocol.specs.Client as client
+use Rattle.sending.specs.declared.Stage.{Stage}
+use Rattle.sending.specs.declared.Stage.the-variants.{Awaiting, Open, Failed}
 use Rattle.session.specs.declared.Session.{Session}
 use Rattle.talk.specs.Talk as talk
 use Rattle.sending.specs.Stages.{SideSession, requestsOf, viewAt, stageOf}
@@ -30,3 +32,9 @@ packed s m =
 
 abbrev pub outcome : Session → Outcome
 outcome s = client.outcomeOf (view s)
+
+-- the output that a delivery must lend: a waiting session's version is told by the reply that it waits for
+abbrev pub roomAt : Stage → ℕ
+roomAt (Awaiting e) = client.room e
+roomAt Open = 0
+roomAt (Failed x) = 0

@@ -7,6 +7,7 @@ ghost use lib.ListN.{length, drop};
 ghost use Rattle.session.specs.Calls.{Delivers, delivered, refusal, moves, takes, deliver, endedBy, end};
 ghost use Rattle.sending.specs.declared.Stage.the-variants as Stage;
 ghost use Rattle.session.specs.Session.{sideOf, heldBytes, view, packed, outcome};
+ghost use Rattle.protocol.specs.Client.{room};
 ghost use Rattle.sending.specs.Stages.{viewAt};
 ghost use Rattle.talk.specs.Talk.{onward, heldBy};
 use protocol::Answer;
@@ -43,8 +44,20 @@ pub struct Ended {
     pub session: Session,
 }
 
+// The output that a delivery must lend, by the version that the awaited reply tells.
+fn room_of(reply: Reply) -> usize
+    ensures { λ r. ⌜ r ≡ room reply ⌝ }
+{
+    match reply {
+        Reply::NegotiationRes(method) => 778,
+        Reply::AuthenticationRes => 778,
+        Reply::ProxyRes => 778,
+        Reply::Response => 262,
+    }
+}
+
 impl Session {
-    // Takes a piece, and puts what it makes due at the output's start. Refused if the session is settled, or the output has less than 262 bytes.
+    // Takes a piece, and puts what it makes due at the output's start. Refused if the session is settled, or the output has less than 778 bytes over v5, or 262 over v4.
     pub fn deliver(self, piece: &[u8], out: &mut [u8]) -> Delivered
         ensures { λ r. ⌜ Delivers (deliver self (now (piece .entry)) (now (out .entry))) (now (piece .entry)) r (now (out .exit)) ⌝ }
     {
@@ -71,7 +84,7 @@ impl Session {
         requires { ⌜ self .stage ≡ Stage.Awaiting reply ⌝ }
         ensures { λ r. ⌜ Delivers (deliver self (now (piece .entry)) (now (out .entry))) (now (piece .entry)) r (now (out .exit)) ⌝ }
     {
-        if out.len() < 262 {
+        if out.len() < room_of(reply) {
             return self.refused(SocksError::ShortOutput);
         }
         self.take(reply, piece, out)
@@ -79,7 +92,7 @@ impl Session {
 
     // A delivery to a session that waits for a reply. An empty piece changes nothing.
     fn take(self, reply: Reply, piece: &[u8], out: &mut [u8]) -> Delivered
-        requires { ⌜ (self .stage ≡ Stage.Awaiting reply) × (262 ≤ length (now out)) ⌝ }
+        requires { ⌜ (self .stage ≡ Stage.Awaiting reply) × (room reply ≤ length (now out)) ⌝ }
         ensures { λ r. ⌜ Delivers (takes self (now (piece .entry)) (now (out .entry))) (now (piece .entry)) r (now (out .exit)) ⌝ }
     {
         if piece.len() == 0 {
@@ -97,7 +110,7 @@ impl Session {
 
     // Takes a piece behind the held bytes, at a stage that waits for a reply.
     fn take_piece(self, reply: Reply, held: &[u8], piece: &[u8], out: &mut [u8]) -> Delivered
-        requires { ⌜ (self .stage ≡ Stage.Awaiting reply) × (now held ≡ heldBytes self) × (length (now held) ≤ 261) × (262 ≤ length (now out)) ⌝ }
+        requires { ⌜ (self .stage ≡ Stage.Awaiting reply) × (now held ≡ heldBytes self) × (length (now held) ≤ 261) × (room reply ≤ length (now out)) ⌝ }
         ensures { λ r. ⌜ Delivers (moves self (onward (sideOf self) (view self) (now (piece .entry))) (now (out .entry))) (now (piece .entry)) r (now (out .exit)) ⌝ }
     {
         let kept = self.kept;

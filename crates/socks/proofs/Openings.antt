@@ -11,6 +11,7 @@ use Rattle.protocol.specs.Opening.{V5, V4, check5, check4, Opening, opening5, o
 use Rattle.protocol.specs.Client as client
 use Rattle.session.specs.Calls.{keptBy, emptySession, begins, openBy, open5, open4}
 use Rattle.socks.specs.Demand3.{BytePieces, Demand3}
+use Rattle.protocol.proofs.Rooms.{begun-waits}
 use Rattle.openings.proofs.KeptBy.{kept-by}
 use Rattle.socks.proofs.Tunnels.{view-packed, Begun, demand3}
 use Rattle.talk.specs.Talk.{feed}
@@ -20,7 +21,7 @@ begun : (o : Opening) (out : List ℕ)
     → let a = begins o (feed (client.side o) (client.begun o) []) out in Begun o (a .session) (take (a .sent) (a .output))
 begun o out =
     record {
-      stands = record { kept = kept-by o; seen = view-packed (emptySession (keptBy o) Settled) (feed (client.side o) (client.begun o) [] .session) };
+      stands = record { kept = kept-by o; seen = view-packed (emptySession (keptBy o) Settled) (feed (client.side o) (client.begun o) [] .session); waits = begun-waits o [] };
       sends = take-append-seam _ _;
     }
 

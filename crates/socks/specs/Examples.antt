@@ -10,23 +10,23 @@ use Rattle.session.specs.Session.{outcome}
 use Rattle.session.specs.Calls.{Call, open5, open4, receiver}
 use Rattle.talk.specs.Tunnel.{Delivery, tunnel}
 
--- a piece with an output of 262 bytes
-abbrev pub lent : List ℕ → Delivery
-lent piece = record { piece = piece; output = replicate 262 0xEE }
+-- a piece with an output of so many bytes
+abbrev pub lent : ℕ → List ℕ → Delivery
+lent room piece = record { piece = piece; output = replicate room 0xEE }
 
 -- the bytes cut behind so many of them
-abbrev pub cutAt : ℕ → List ℕ → List Delivery
-cutAt n bs = lent (take n bs) ∷ lent (drop n bs) ∷ []
+abbrev pub cutAt : ℕ → ℕ → List ℕ → List Delivery
+cutAt room n bs = lent room (take n bs) ∷ lent room (drop n bs) ∷ []
 
-abbrev pub ranBy : Answer → Call → List Delivery → (Shown → ℕ → List ℕ → Case) → Case
-ranBy Accepted c ds made = let t = tunnel receiver (c .session) (take (c .sent) (c .output)) ds in made (shown (outcome (t .session))) (t .count) (t .sent)
-ranBy (Refused e) c ds made = made (fails (number e) (status e)) (c .used) (take (c .sent) (c .output))
+abbrev pub ranBy : Answer → ℕ → Call → List Delivery → (Shown → ℕ → List ℕ → Case) → Case
+ranBy Accepted room c ds made = let t = tunnel (receiver room) (c .session) (take (c .sent) (c .output)) ds in made (shown (outcome (t .session))) (t .count) (t .sent)
+ranBy (Refused e) room c ds made = made (fails (number e) (status e)) (c .used) (take (c .sent) (c .output))
 
-abbrev pub ran : Call → List Delivery → (Shown → ℕ → List ℕ → Case) → Case
-ran c ds made = ranBy (c .answer) c ds made
+abbrev pub ran : ℕ → Call → List Delivery → (Shown → ℕ → List ℕ → Case) → Case
+ran room c ds made = ranBy (c .answer) room c ds made
 
--- a case as the calls have it; a host has no call of its own
+-- a case as the calls have it, each lent what it asks; a host has no call of its own
 abbrev pub called : ℕ → Case → Case
 called n (host h s d) = computed (host h s d)
-called n (over5 a bs r u q) = ran (open5 a (replicate 262 0xEE)) (cutAt n bs) (over5 a bs)
-called n (over4 a bs r u q) = ran (open4 a (replicate 1024 0xEE)) (cutAt n bs) (over4 a bs)
+called n (over5 a bs r u q) = ran 778 (open5 a (replicate 778 0xEE)) (cutAt 778 n bs) (over5 a bs)
+called n (over4 a bs r u q) = ran 262 (open4 a (replicate 1024 0xEE)) (cutAt 262 n bs) (over4 a bs)

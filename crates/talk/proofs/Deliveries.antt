@@ -12,7 +12,7 @@ use Rattle.talk.specs.Tunnel.{Delivery, lends, answerTo, after, joined, 
 use Rattle.talk.specs.Lawful.{Lawful}
 use Rattle.talk.proofs.Feed.{Ready, Still, onward-append, onward-ready, onward-still, onward-within, onward-exact, onward-over}
 
-module _ (M : Side) (law : Lawful M) where
+module _ (M : Side) (law : Lawful M) (room : ℕ) where
   -- an empty piece changes nothing, as it should
   given-onward : (s : SessionOf M) → Still M s → (piece : List ℕ) → given M s piece ≡ onward M s piece
   given-onward s w [] = sym w
@@ -20,11 +20,11 @@ module _ (M : Side) (law : Lawful M) where
 
   -- one delivery that lends enough
   record Lent (s : SessionOf M) (d : Delivery) : Type 0 where
-    session : answerTo (receiver M) s d .session ≡ onward M s (d .piece) .session
-    used : answerTo (receiver M) s d .used ≡ reached (onward M s (d .piece)) - length (heldBy s)
-    sent : take (answerTo (receiver M) s d .sent) (answerTo (receiver M) s d .output) ≡ onward M s (d .piece) .sent
+    session : answerTo (receiver M room) s d .session ≡ onward M s (d .piece) .session
+    used : answerTo (receiver M room) s d .used ≡ reached (onward M s (d .piece)) - length (heldBy s)
+    sent : take (answerTo (receiver M room) s d .sent) (answerTo (receiver M room) s d .output) ≡ onward M s (d .piece) .sent
 
-  lent : (s : SessionOf M) (d : Delivery) → Still M s → lends (receiver M) d ≡ true → Lent s d
+  lent : (s : SessionOf M) (d : Delivery) → Still M s → lends (receiver M room) d ≡ true → Lent s d
   unfolding deliver onward
   lent (waiting s held) d w e =
       let g = given-onward (waiting s held) w (d .piece) in
@@ -33,26 +33,26 @@ module _ (M : Side) (law : Lawful M) where
 
   -- one that does not
   record Unlent (s : SessionOf M) (d : Delivery) : Type 0 where
-    session : answerTo (receiver M) s d .session ≡ s
-    used : answerTo (receiver M) s d .used ≡ 0
-    sent : take (answerTo (receiver M) s d .sent) (answerTo (receiver M) s d .output) ≡ []
+    session : answerTo (receiver M room) s d .session ≡ s
+    used : answerTo (receiver M room) s d .used ≡ 0
+    sent : take (answerTo (receiver M room) s d .sent) (answerTo (receiver M room) s d .output) ≡ []
 
-  unlent : (s : SessionOf M) (d : Delivery) → lends (receiver M) d ≡ false → Unlent s d
+  unlent : (s : SessionOf M) (d : Delivery) → lends (receiver M room) d ≡ false → Unlent s d
   unfolding deliver onward
   unlent (waiting s held) d e = record { session = rw e; used = rw e; sent = rw e }
   unlent (ended x) d e = record { session = refl; used = refl; sent = refl }
 
   pub record Told (s : SessionOf M) (ds : List Delivery) : Type 0 where
-    pub session : after (receiver M) s ds ≡ onward M s (joined (receiver M) ds) .session
-    pub sent : sentBy (receiver M) s ds ≡ onward M s (joined (receiver M) ds) .sent
-    pub count : total (receiver M) s ds + length (heldBy s) ≡ reached (onward M s (joined (receiver M) ds))
-    pub rest : rests (receiver M) s ds ≡ drop (total (receiver M) s ds) (joined (receiver M) ds)
+    pub session : after (receiver M room) s ds ≡ onward M s (joined (receiver M room) ds) .session
+    pub sent : sentBy (receiver M room) s ds ≡ onward M s (joined (receiver M room) ds) .sent
+    pub count : total (receiver M room) s ds + length (heldBy s) ≡ reached (onward M s (joined (receiver M room) ds))
+    pub rest : rests (receiver M room) s ds ≡ drop (total (receiver M room) s ds) (joined (receiver M room) ds)
 
   told-nil : (s : SessionOf M) → Still M s → Told s []
   unfolding after sentBy total rests joined
   told-nil s w = record { session = rw w; sent = rw w; count = rw w; rest = refl }
 
-  told-unlent : (s : SessionOf M) (d : Delivery) (ds : List Delivery) → lends (receiver M) d ≡ false → Told s ds → Told s (d ∷ ds)
+  told-unlent : (s : SessionOf M) (d : Delivery) (ds : List Delivery) → lends (receiver M room) d ≡ false → Told s ds → Told s (d ∷ ds)
   unfolding after sentBy total rests joined
   told-unlent s d ds e t =
       let u = unlent s d e in
@@ -78,7 +78,7 @@ module _ (M : Side) (law : Lawful M) where
           let z : used ≡ length p = omega (arith, onward-exact M law s p e) in
           rw (z, drop-length, drop-append-add)
 
-  told-lent : (s : SessionOf M) (d : Delivery) (ds : List Delivery) → lends (receiver M) d ≡ true → Ready M s → Still M s
+  told-lent : (s : SessionOf M) (d : Delivery) (ds : List Delivery) → lends (receiver M room) d ≡ true → Ready M s → Still M s
       → Told (onward M s (d .piece) .session) ds → Told s (d ∷ ds)
   unfolding after sentBy total rests joined
   told-lent s d ds e r w t =
@@ -87,13 +87,13 @@ module _ (M : Side) (law : Lawful M) where
         session = rw (l .session, e, onward-append M law) (t .session);
         sent = rw (l .session, l .sent, e, onward-append M law, t .sent);
         count = rw (l .session, l .used, e, onward-append M law) (omega (arith, r (d .piece), t .count));
-        rest = rw (l .session, e, t .rest) (rest-joins s (d .piece) (joined (receiver M) ds) (answerTo (receiver M) s d .used) _ (l .used) (r (d .piece)) (t .count));
+        rest = rw (l .session, e, t .rest) (rest-joins s (d .piece) (joined (receiver M room) ds) (answerTo (receiver M room) s d .used) _ (l .used) (r (d .piece)) (t .count));
       }
 
   pub told : (ds : List Delivery) (s : SessionOf M) → Ready M s → Still M s → Told s ds
   told [] s r w = told-nil s w
-  told (d ∷ ds) s r w = go (lends (receiver M) d) refl (λ s′ r′ w′. told ds s′ r′ w′)
+  told (d ∷ ds) s r w = go (lends (receiver M room) d) refl (λ s′ r′ w′. told ds s′ r′ w′)
     where
-      go : (b : Bool) → lends (receiver M) d ≡ b → ((s′ : SessionOf M) → Ready M s′ → Still M s′ → Told s′ ds) → Told s (d ∷ ds)
+      go : (b : Bool) → lends (receiver M room) d ≡ b → ((s′ : SessionOf M) → Ready M s′ → Still M s′ → Told s′ ds) → Told s (d ∷ ds)
       go true e ih = told-lent s d ds e r w (ih _ (onward-ready M law s (d .piece)) (onward-still M law s (d .piece)))
       go false e ih = told-unlent s d ds e (ih s r w)

@@ -13,18 +13,18 @@ use Rattle.talk.proofs.Feed.{andThen, feed-append, feed-ready, feed-sti
 use Rattle.talk.proofs.Deliveries.{told}
 use Rattle.talk.proofs.Accept.{Done, opens, parsed}
 
-module _ (M : Side) (law : Lawful M) where
+module _ (M : Side) (law : Lawful M) (room : ℕ) where
   done-reached : (f : FedOf M) (n : ℕ) (x : M .Result) → Done M f n x → reached f ≡ n
   done-reached f n x d = rw (d .session) (add-zero _ ∙ d .place)
 
-  pub pieces : (t : TalkOf M) → Shaped M t → (ds : List Delivery) → Pieces M t ds
+  pub pieces : (t : TalkOf M) → Shaped M t → (ds : List Delivery) → Pieces M room t ds
   pieces t w ds =
       let f = feed M t [] in
-      let bs = joined (receiver M) ds in
-      let a = told M law ds (f .session) (feed-ready M law t w []) (feed-still M law t w []) in
+      let bs = joined (receiver M room) ds in
+      let a = told M law room ds (f .session) (feed-ready M law t w []) (feed-still M law t w []) in
       let k : feed M t bs ≡ andThen M f bs = feed-append M law t w [] bs in
-      let c : tunnelOf M t ds .count ≡ reached (feed M t bs) = omega (arith, a .count, feed-within M law t [], ap (λ (x : FedOf M). reached x) k) in
-      let s : tunnelOf M t ds .session ≡ feed M t bs .session = a .session ∙ sym (ap (λ (x : FedOf M). x .session) k) in
+      let c : tunnelOf M room t ds .count ≡ reached (feed M t bs) = omega (arith, a .count, feed-within M law t [], ap (λ (x : FedOf M). reached x) k) in
+      let s : tunnelOf M room t ds .session ≡ feed M t bs .session = a .session ∙ sym (ap (λ (x : FedOf M). x .session) k) in
       record {
         session = s;
         sent = ap (λ (x : List ℕ). f .sent ++ x) (a .sent) ∙ sym (ap (λ (x : FedOf M). x .sent) k);

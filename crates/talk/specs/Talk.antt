@@ -17,14 +17,13 @@ pub data Talk (S R E : Type 0) : Type 0 where
   await : S → (List ℕ → Talk S R E) → Talk S R E
 
 -- a side: its stages, results and errors; how a message is read at a stage; what is left to do at a stage;
--- the output that a delivery must lend; and the errors with which it refuses a delivery once it has ended, and one that lends less
+-- and the errors with which it refuses a delivery once it has ended, and one that lends too little output
 pub record Side : Type 1 where
   pub Stage : Type 0
   pub Result : Type 0
   pub Error : Type 0
   pub reads : Stage → List ℕ → Decision Error
   pub talkAt : Stage → Talk Stage Result Error
-  pub room : ℕ
   pub over : Error
   pub short : Error
 

@@ -95,10 +95,11 @@ accepting M s f out =
       output = f .sent ++ drop (length (f .sent)) out;
     }
 
-unfoldable pub deliver : (M : Side) → SessionOf M → List ℕ → List ℕ → Answer (SessionOf M) (Taken (M .Error))
-deliver M s piece out =
+-- for an output of at least so many bytes
+unfoldable pub deliver : (M : Side) → ℕ → SessionOf M → List ℕ → List ℕ → Answer (SessionOf M) (Taken (M .Error))
+deliver M room s piece out =
     cond (isOver s) (refusing (M .over) s out)
-    (cond (leb (M .room) (length out)) (accepting M s (given M s piece) out) (refusing (M .short) s out))
+    (cond (leb room (length out)) (accepting M s (given M s piece) out) (refusing (M .short) s out))
 
-abbrev pub receiver : (M : Side) → Receiver (SessionOf M) (Taken (M .Error))
-receiver M = record { room = M .room; deliver = deliver M }
+abbrev pub receiver : (M : Side) → ℕ → Receiver (SessionOf M) (Taken (M .Error))
+receiver M room = record { room = room; deliver = deliver M room }

@@ -3,52 +3,41 @@ use Prim.Native.Nat.{ℕ, _+_, _≤_, _<_, zero-le}
 use native.Mathlib.Nat.{add-zero, zero-add, add-assoc, le-refl}
 use native.Mathlib.Omega.{arith}
 use mathlib.Core.Path.{_≡_, refl, ap, sym, _∙_}
-use mathlib.Core.Bool.{Bool, true, false, cond}
+use mathlib.Core.Bool.{Bool, true, false}
 use mathlib.Core.List.{List, [], _++_, append-assoc, append-nil}
-use lib.ListN.{length, drop, length-append}
+use lib.ListN.{length, drop}
 use lib.Seq.{drop-drop}
-use lib.Dec.{leb}
-use borrow.Author.Tests.{leb-true}
 use Rattle.protocol.specs.declared.AuthMethod.{AuthMethod}
 use Rattle.protocol.specs.declared.AuthMethod.the-variants.{NoAuth, UserPass, NoneAcceptable}
 use Rattle.protocol.specs.declared.Reply.{Reply}
 use Rattle.protocol.specs.declared.Reply.the-variants.{NegotiationRes, AuthenticationRes, ProxyRes, Response}
 use Rattle.protocol.specs.declared.SocksError.{SocksError}
-use Rattle.protocol.specs.declared.SocksError.the-variants.{WouldOverflow}
 use Rattle.protocol.specs.declared.Verdict.the-variants.{Good, Bad}
 use Rattle.protocol.specs.declared.Decision.the-variants.{Undecided, Decided}
 use Rattle.protocol.specs.Replies.{decide}
-use Rattle.protocol.specs.Client.{Kept, limited, due, afterMethod, talkAt, client}
+use Rattle.protocol.specs.Client.{Kept, due, afterMethod, talkAt, client}
 use Rattle.sending.specs.declared.Stage.{Stage}
 use Rattle.sending.specs.declared.Stage.the-variants.{Awaiting, Open, Failed}
 use Rattle.sending.specs.Stages.{viewAt}
 use Rattle.sending.specs.Stages.{SideFed}
-use Rattle.sending.specs.Due.{dueIf, dueAt, dueMethod, dueAfter, sentBefore}
+use Rattle.sending.specs.Due.{unlessGone, dueMethod, dueAfter, stillDue}
+use Rattle.sending.specs.Stages.{Limited}
 use Rattle.turns.specs.Turns.{onStage, heldCount}
 use Rattle.sending.specs.Stages.{rank}
-use Rattle.talk.specs.Talk.{done, failed, stop, send, ended, waiting, unmoved, sending, moving, feed, heldBy}
+use Rattle.talk.specs.Talk.{done, failed, ended, waiting, unmoved, sending, moving, feed, heldBy}
 use Rattle.talk.proofs.Feed.{same-fed}
 
 -- ---- what a good reply makes due, the talk does
 
-limited-due : (c : Kept) (before : ℕ) (q : List ℕ) (e : Reply) (bs : List ℕ)
-    → feed (client c) (limited before q (talkAt c e)) bs ≡ sending (dueIf (leb (before + length q) 262) q e .sent) (onStage c (dueIf (leb (before + length q) 262) q e .stage) bs)
+due-due : (c : Kept) (o : Bool) (q : List ℕ) (e : Reply) (bs : List ℕ) → feed (client c) (due o q (talkAt c e)) bs ≡ sending (unlessGone o q) (feed (client c) (talkAt c e) bs)
 unfolding feed
-limited-due c before q e bs = go (leb (before + length q) 262)
-  where
-    go : (b : Bool) → feed (client c) (cond b (send q (talkAt c e)) (stop (failed WouldOverflow))) bs ≡ sending (dueIf b q e .sent) (onStage c (dueIf b q e .stage) bs)
-    go true = refl
-    go false = refl
-
-due-due : (c : Kept) (o : Bool) (before : ℕ) (q : List ℕ) (e : Reply) (bs : List ℕ)
-    → feed (client c) (due o before q (talkAt c e)) bs ≡ sending (dueAt o before q e .sent) (onStage c (dueAt o before q e .stage) bs)
-due-due c true before q e bs = refl
-due-due c false before q e bs = limited-due c before q e bs
+due-due c true q e bs = refl
+due-due c false q e bs = refl
 
 method-due : (c : Kept) (m : AuthMethod) (bs : List ℕ) → feed (client c) (afterMethod m c) bs ≡ sending (dueMethod c m .sent) (onStage c (dueMethod c m .stage) bs)
 unfolding feed
-method-due c NoAuth bs = due-due c (c .optimistic) 3 (c .proxy) ProxyRes bs
-method-due c UserPass bs = due-due c (c .optimistic) 3 (c .authentication) AuthenticationRes bs
+method-due c NoAuth bs = due-due c (c .optimistic) (c .proxy) ProxyRes bs
+method-due c UserPass bs = due-due c (c .optimistic) (c .authentication) AuthenticationRes bs
 method-due c NoneAcceptable bs = refl
 
 -- a stage that waits, on bytes that decide its reply
@@ -56,7 +45,7 @@ stage-good : (c : Kept) (e : Reply) (bs : List ℕ) (n : ℕ) → decide e bs �
     → onStage c (Awaiting e) bs ≡ moving n (sending (dueAfter c e .sent) (onStage c (dueAfter c e .stage) (drop n bs)))
 unfolding feed
 stage-good c (NegotiationRes m) bs n q = rw q (ap (moving n) (method-due c m (drop n bs)))
-stage-good c AuthenticationRes bs n q = rw q (ap (moving n) (due-due c (c .optimistic) (3 + length (c .authentication)) (c .proxy) ProxyRes (drop n bs)))
+stage-good c AuthenticationRes bs n q = rw q (ap (moving n) (due-due c (c .optimistic) (c .proxy) ProxyRes (drop n bs)))
 stage-good c ProxyRes bs n q = rw q
 stage-good c Response bs n q = rw q
 
@@ -122,43 +111,26 @@ turn-start c e bytes = record { session = refl; sends = refl; places = sym (zero
 
 -- ---- the loop ends, and what is sent has room
 
-if-rank : (b : Bool) (q : List ℕ) (e : Reply) → rank (dueIf b q e .stage) ≤ rank (Awaiting e)
-if-rank true q e = le-refl _
-if-rank false q e = zero-le
-
-at-rank : (o : Bool) (before : ℕ) (q : List ℕ) (e : Reply) → rank (dueAt o before q e .stage) ≤ rank (Awaiting e)
-at-rank true before q e = le-refl _
-at-rank false before q e = if-rank (leb (before + length q) 262) q e
-
 pub rank-falls : (c : Kept) (e : Reply) → rank (dueAfter c e .stage) < rank (Awaiting e)
-rank-falls c (NegotiationRes NoAuth) = omega (arith, at-rank (c .optimistic) 3 (c .proxy) ProxyRes)
-rank-falls c (NegotiationRes UserPass) = omega (arith, at-rank (c .optimistic) 3 (c .authentication) AuthenticationRes)
+rank-falls c (NegotiationRes NoAuth) = omega arith
+rank-falls c (NegotiationRes UserPass) = omega arith
 rank-falls c (NegotiationRes NoneAcceptable) = omega arith
-rank-falls c AuthenticationRes = omega (arith, at-rank (c .optimistic) (3 + length (c .authentication)) (c .proxy) ProxyRes)
+rank-falls c AuthenticationRes = omega arith
 rank-falls c ProxyRes = omega arith
 rank-falls c Response = omega arith
 
--- sent so far, with the greeting's three bytes, before and behind a good reply
-module _ (c : Kept) (sent : List ℕ) where
-  if-room : (b : Bool) (k : ℕ) (q : List ℕ) (e : Reply) → (b ≡ true → length sent + length q + 3 ≤ sentBefore c (Awaiting e)) → length sent + 3 ≤ 265
-      → length (sent ++ dueIf b q e .sent) + 3 ≤ sentBefore c (dueIf b q e .stage)
-  if-room true k q e h l = omega (arith, length-append sent q, h refl)
-  if-room false k q e h l = rw append-nil l
+few : (o : Bool) (q : List ℕ) → length (unlessGone o q) ≤ length q
+few true q = zero-le
+few false q = le-refl _
 
-  at-room : (o : Bool) (before : ℕ) (q : List ℕ) (e : Reply) → length sent + 3 ≤ before → length sent + 3 ≤ 262 → length sent + 3 ≤ sentBefore c (Awaiting e)
-      → (before + length q ≤ 262 → before + length q ≤ sentBefore c (Awaiting e))
-      → length (sent ++ dueAt o before q e .sent) + 3 ≤ sentBefore c (dueAt o before q e .stage)
-  at-room true before q e h l m f = rw append-nil m
-  at-room false before q e h l m f =
-      if-room (leb (before + length q) 262) before q e (λ t. let w = f (leb-true (before + length q) 262 t) in omega arith) (omega arith)
-
-  pub room-after : (e : Reply) → length sent + 3 ≤ sentBefore c (Awaiting e) → length (sent ++ dueAfter c e .sent) + 3 ≤ sentBefore c (dueAfter c e .stage)
-  room-after (NegotiationRes NoAuth) h = at-room (c .optimistic) 3 (c .proxy) ProxyRes h (omega arith) (omega arith) (λ l. omega arith)
-  room-after (NegotiationRes UserPass) h = at-room (c .optimistic) 3 (c .authentication) AuthenticationRes h (omega arith) (omega arith) (λ l. omega arith)
-  room-after (NegotiationRes NoneAcceptable) h = rw append-nil (omega arith)
-  room-after AuthenticationRes h = at-room (c .optimistic) (3 + length (c .authentication)) (c .proxy) ProxyRes (omega arith) (omega arith) (omega arith) (λ l. omega arith)
-  room-after ProxyRes h = rw append-nil h
-  room-after Response h = rw append-nil h
+-- what a good reply makes due, and what may still be due behind it
+pub still-after : (c : Kept) → Limited c → (e : Reply) → length (dueAfter c e .sent) + stillDue (dueAfter c e .stage) ≤ stillDue (Awaiting e)
+still-after c l (NegotiationRes NoAuth) = omega (arith, few (c .optimistic) (c .proxy), l .proxy)
+still-after c l (NegotiationRes UserPass) = omega (arith, few (c .optimistic) (c .authentication), l .authentication)
+still-after c l (NegotiationRes NoneAcceptable) = omega arith
+still-after c l AuthenticationRes = omega (arith, few (c .optimistic) (c .proxy), l .proxy)
+still-after c l ProxyRes = omega arith
+still-after c l Response = omega arith
 
 pub held-count : (s : Stage) (rest : List ℕ) → length (heldBy (viewAt s rest)) ≡ heldCount s (length rest)
 held-count (Awaiting e) rest = refl

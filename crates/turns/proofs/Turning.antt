@@ -15,18 +15,19 @@ use Rattle.protocol.specs.declared.Decision.{Decision}
 use Rattle.protocol.specs.declared.Decision.the-variants.{Undecided, Decided}
 use Rattle.protocol.specs.Bytes.{byte}
 use Rattle.protocol.specs.Replies.{decide}
-use Rattle.protocol.specs.Client.{Kept}
+use Rattle.protocol.specs.Client.{Kept, room}
 use Rattle.protocol.proofs.Replies.{decided-within, undecided-by}
 use Rattle.wire.specs.Written.{Wrote}
-use Rattle.wire.proofs.Laws.{then}
+use Rattle.wire.proofs.Laws.{wrote-length, then}
 use Rattle.sending.specs.declared.Stage.{Stage}
 use Rattle.sending.specs.declared.Stage.the-variants.{Awaiting, Open, Failed}
 use Rattle.sending.specs.Stages.{viewAt}
 use Rattle.sending.specs.Stages.{SideFed}
-use Rattle.sending.specs.Due.{dueAfter, dueJudged, sentBefore, Sends}
+use Rattle.sending.specs.Due.{dueAfter, dueJudged, stillDue, Sends}
+use Rattle.sending.specs.Stages.{Limited}
 use Rattle.turns.specs.Turns.{isGood, goesOn, onStage, Turns, Worked}
 use Rattle.sending.specs.Stages.{rank}
-use Rattle.turns.proofs.Steps.{Turning, turn-start, turn-good, turn-bad, turn-waits, turn-open, turn-failed, rank-falls, room-after}
+use Rattle.turns.proofs.Steps.{Turning, turn-start, turn-good, turn-bad, turn-waits, turn-open, turn-failed, rank-falls, still-after}
 use Rattle.sending.proofs.Sending.{wrote-none}
 use Rattle.sending.proofs.Stages.{awaits}
 use Rattle.talk.specs.Talk.{heldBy}
@@ -80,26 +81,28 @@ pub record Going (c : Kept) (whole : SideFed) (bytes out₀ : List ℕ) (stage :
   pub sent : List ℕ
   pub wrote : Wrote out₀ 0 sent next out
   pub turning : Turning c whole bytes stage place sent
-  pub room : length sent + 3 ≤ sentBefore c stage
+  pub limits : Limited c
+  pub room : next + stillDue stage ≤ length out
   pub ends : rank stage ≤ left
   pub inside : place ≤ length bytes
 
-pub going-start : (c : Kept) (e : Reply) (bytes out : List ℕ) → Going c (onStage c (Awaiting e) bytes) bytes out (Awaiting e) 0 0 3 out
-going-start c e bytes out =
+pub going-start : (c : Kept) (e : Reply) (bytes out : List ℕ) → Limited c → room e ≤ length out → Going c (onStage c (Awaiting e) bytes) bytes out (Awaiting e) 0 0 3 out
+going-start c e bytes out l h =
     record {
       sent = [];
       wrote = wrote-none out 0 zero-le;
       turning = turn-start c e bytes;
-      room = starts e;
+      limits = l;
+      room = starts e h;
       ends = at-most e;
       inside = zero-le;
     }
   where
-    starts : (e : Reply) → 3 ≤ sentBefore c (Awaiting e)
-    starts (NegotiationRes m) = le-refl _
-    starts AuthenticationRes = omega arith
-    starts ProxyRes = omega arith
-    starts Response = omega arith
+    starts : (e : Reply) → room e ≤ length out → 0 + stillDue (Awaiting e) ≤ length out
+    starts (NegotiationRes m) h = omega arith
+    starts AuthenticationRes h = omega arith
+    starts ProxyRes h = zero-le
+    starts Response h = zero-le
 
     at-most : (e : Reply) → rank (Awaiting e) ≤ 3
     at-most (NegotiationRes m) = le-refl _
@@ -122,7 +125,8 @@ module _ {c : Kept} {whole : SideFed} {bytes out₀ : List ℕ} {place next left
         sent = g .sent ++ dueAfter c e .sent;
         wrote = then (g .wrote) wrote;
         turning = turn-good c whole bytes place (g .sent) e n (g .turning) q;
-        room = room-after c (g .sent) e (g .room);
+        limits = g .limits;
+        room = omega (arith, wrote .place, wrote-length wrote, still-after c (g .limits) e, g .room);
         ends = omega arith;
         inside = omega (arith, decided-within e (drop place bytes) n Good q, length-drop place bytes);
       })
@@ -186,7 +190,7 @@ stays : {c : Kept} {whole : SideFed} {bytes out₀ : List ℕ} {place next left 
     → Going c whole bytes out₀ stage place next left out → Worked whole bytes out₀ stage′ place′ next′ out′
 stays {c} {whole} {bytes} {out₀} {place} {next} {left} {out} {stage} {stage′} {place′} {next′} {out′} z s p w g =
     let p′ : place′ ≡ place = rw add-zero at p in
-    rw (s, p′) (settled-worked z (record { sent = g .sent; wrote = subst (λ (l : List ℕ). Wrote out₀ 0 l next′ out′) (append-nil (g .sent)) (then (g .wrote) w); turning = g .turning; room = g .room; ends = g .ends; inside = g .inside }))
+    rw (s, p′) (settled-worked z (record { sent = g .sent; wrote = subst (λ (l : List ℕ). Wrote out₀ 0 l next′ out′) (append-nil (g .sent)) (then (g .wrote) w); turning = g .turning; limits = g .limits; room = omega (arith, w .place, wrote-length w, g .room); ends = g .ends; inside = g .inside }))
 
 module _ {c : Kept} {whole : SideFed} {bytes out₀ : List ℕ} {place next left : ℕ} {out : List ℕ} {stage′ : Stage} {place′ next′ : ℕ} {again : Bool} {out′ : List ℕ} where
   -- another turn follows

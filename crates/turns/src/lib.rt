@@ -3,9 +3,9 @@ ghost use mathlib.Core.Path.{_≡_};
 ghost use mathlib.Core.List.{_++_};
 ghost use Prim.Native.Nat.{_+_, _-_, _≤_};
 ghost use lib.ListN.{length};
-ghost use Rattle.protocol.specs.Client.{client, talkAt};
+ghost use Rattle.protocol.specs.Client.{client, talkAt, room};
 ghost use Rattle.sending.specs.Stages.{requestsOf};
-ghost use Rattle.sending.specs.Due.{sentBefore};
+ghost use Rattle.sending.specs.Due.{stillDue};
 ghost use Rattle.sending.specs.declared.Stage.the-variants as Stage;
 ghost use Rattle.turns.specs.Turns.{isGood, Turns, Worked, heldCount};
 ghost use Rattle.talk.specs.Talk.{feed};
@@ -44,7 +44,7 @@ fn read_turn(
     out: &mut [u8],
     at: usize,
 ) -> Turn
-    requires { ⌜ (length (now held) ≤ 261) × (place ≤ length (now held) + length (now piece)) × (at + 3 ≤ sentBefore (requestsOf kept) (Stage.Awaiting reply)) × (262 ≤ length (now out)) ⌝ }
+    requires { ⌜ (length (now held) ≤ 261) × (place ≤ length (now held) + length (now piece)) × (at + stillDue (Stage.Awaiting reply) ≤ length (now out)) ⌝ }
     ensures { λ r. ⌜ Turns (requestsOf kept) (Stage.Awaiting reply) (now (held .entry) ++ now (piece .entry)) place (now (out .entry)) at (r .stage) (r .place) (r .sent) (r .again) (now (out .exit)) ⌝ }
 {
     match read_at(reply, held, piece, place) {
@@ -69,7 +69,7 @@ fn read_turn(
 
 // A turn from wherever the delivery stands.
 fn turn_on(kept: Kept, turn: Turn, held: &[u8], piece: &[u8], out: &mut [u8]) -> Turn
-    requires { ⌜ (length (now held) ≤ 261) × (turn .place ≤ length (now held) + length (now piece)) × (turn .sent + 3 ≤ sentBefore (requestsOf kept) (turn .stage)) × (262 ≤ length (now out)) ⌝ }
+    requires { ⌜ (length (now held) ≤ 261) × (turn .place ≤ length (now held) + length (now piece)) × (turn .sent + stillDue (turn .stage) ≤ length (now out)) ⌝ }
     ensures { λ r. ⌜ Turns (requestsOf kept) (turn .stage) (now (held .entry) ++ now (piece .entry)) (turn .place) (now (out .entry)) (turn .sent) (r .stage) (r .place) (r .sent) (r .again) (now (out .exit)) ⌝ }
 {
     let stage = turn.stage;
@@ -92,7 +92,7 @@ fn turn_on(kept: Kept, turn: Turn, held: &[u8], piece: &[u8], out: &mut [u8]) ->
 
 // Works through held bytes and a piece until the session waits, opens or fails: at most three replies.
 pub fn work(kept: Kept, reply: Reply, held: &[u8], piece: &[u8], out: &mut [u8]) -> Turn
-    requires { ⌜ (length (now held) ≤ 261) × (262 ≤ length (now out)) ⌝ }
+    requires { ⌜ (length (now held) ≤ 261) × (room reply ≤ length (now out)) ⌝ }
     ensures { λ r. ⌜ Worked (feed (client (requestsOf kept)) (talkAt (requestsOf kept) reply) (now (held .entry) ++ now (piece .entry))) (now (held .entry) ++ now (piece .entry)) (now (out .entry)) (r .stage) (r .place) (r .sent) (now (out .exit)) ⌝ }
 {
     let mut turn = Turn {

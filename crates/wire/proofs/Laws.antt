@@ -12,7 +12,7 @@ use lib.Dec.{leb}
 use borrow.Author.Tests.{le-leb, lt-leb, leb-true, leb-false}
 use Rattle.wire.specs.declared.Written.{Written}
 use Rattle.wire.specs.declared.Written.the-variants.{At, WouldOverflow}
-use Rattle.wire.specs.Written.{overwrite, Wrote, fits, Writes}
+use Rattle.wire.specs.Written.{overwrite, Wrote, fits, Writes, placeOf}
 
 module _ (out : List ℕ) (at : ℕ) (bs : List ℕ) (inside : at + length bs ≤ length out) where
   pub length-overwrite : length (overwrite out at bs) ≡ length out
@@ -106,3 +106,7 @@ at-place {out} {out′} {bs} {at} {r} w h = w .answer ∙ rw (le-leb (at + lengt
 pub wrote-start : {out out′ bs : List ℕ} {next : ℕ} → Wrote out 0 bs next out′ → take (length bs) out′ ≡ bs
 unfolding overwrite
 wrote-start {out} {out′} {bs} {next} w = rw (w .bytes) (take-append-seam bs _)
+
+-- a writer that has room writes, and its place is behind what it wrote
+pub placed : {out out′ bs : List ℕ} {at n : ℕ} {r : Written} → Writes true out at bs r out′ → at + length bs ≤ length out → n ≡ placeOf r at → Wrote out at bs n out′
+placed {at = at} w h e = let f = fitted w h in record { inside = h; place = e ∙ ap (λ (x : Written). placeOf x at) (at-place w h); bytes = f .bytes }

@@ -26,3 +26,8 @@ fits ok out at bs = ok && leb (at + length bs) (length out)
 pub record Writes (ok : Bool) (out : List ℕ) (at : ℕ) (bs : List ℕ) (r : Written) (out′ : List ℕ) : Type 0 where
   pub answer : r ≡ cond (fits ok out at bs) (At (at + length bs)) WouldOverflow
   pub output : out′ ≡ cond (fits ok out at bs) (overwrite out at bs) out
+
+-- the place behind what was written
+abbrev pub placeOf : Written → ℕ → ℕ
+placeOf (At next) at = next
+placeOf WouldOverflow at = at

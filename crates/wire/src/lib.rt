@@ -7,7 +7,7 @@ ghost use lib.ListN.{length, drop};
 ghost use lib.Dec.{leb};
 ghost use Rattle.protocol.specs.Bytes.{two};
 ghost use Rattle.protocol.specs.Requests.{methodByte};
-ghost use Rattle.wire.specs.Written.{Wrote, Writes};
+ghost use Rattle.wire.specs.Written.{Wrote, Writes, placeOf};
 use protocol::AuthMethod;
 
 // What a writer answers: the place behind what it wrote; or that it does not fit, with nothing written.
@@ -74,6 +74,16 @@ pub fn put(out: &mut [u8], at: usize, src: &[u8]) -> Written
         return Written::At(copy(out, at, src));
     }
     Written::WouldOverflow
+}
+
+// The place behind what was written at a place; where it did not fit, that place.
+pub fn place(written: Written, at: usize) -> usize
+    ensures { λ r. ⌜ r ≡ placeOf written at ⌝ }
+{
+    match written {
+        Written::At(next) => next,
+        Written::WouldOverflow => at,
+    }
 }
 
 pub fn method_byte(method: AuthMethod) -> u8

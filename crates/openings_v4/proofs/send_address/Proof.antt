@@ -3,7 +3,8 @@ use mathlib.Core.Path.{_≡_, ap}
 use lib.ListN.{length, length-take}
 use Rattle.protocol.specs.Requests.{address}
 use Rattle.requests_v4.proofs.Sizes.{address-size}
-use Rattle.openings_v4.proofs.Requesting.{asks, placed}
+use Rattle.openings_v4.proofs.Requesting.{asks}
+use Rattle.wire.proofs.Laws.{placed}
 use borrow.Author.Needs.{needs}
 use Rattle.openings_v4.proofs.send_address.Statement.{statement}
 use Rattle.openings_v4.proofs.send_address.Tie as tie

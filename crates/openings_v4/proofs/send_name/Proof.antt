@@ -2,7 +2,8 @@ use native.Mathlib.Omega.{arith}
 use mathlib.Core.Path.{ap, sym, _∙_}
 use mathlib.Core.Bool.{Bool, _&&_}
 use Rattle.requests_v4.proofs.Sizes.{name-size}
-use Rattle.openings_v4.proofs.Requesting.{asks, placed, looked-up4, as-it-is4}
+use Rattle.openings_v4.proofs.Requesting.{asks, looked-up4, as-it-is4}
+use Rattle.wire.proofs.Laws.{placed}
 use borrow.Author.Needs.{needs}
 use Rattle.openings_v4.proofs.send_name.Statement.{statement}
 use Rattle.openings_v4.proofs.send_name.Tie as tie

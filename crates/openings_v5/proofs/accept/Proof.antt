@@ -1,7 +1,7 @@
 use Rattle.protocol.specs.Opening.{V5}
 use Rattle.lookup.specs.Chosen.{recordsOf}
 use Rattle.openings.proofs.Accepting.{accepted5}
-use Rattle.openings_v5.proofs.Greeting.{accepts5, sends-method}
+use Rattle.openings_v5.proofs.Greeting.{accepts5}
 use lib.ListN.{length}
 use borrow.Author.Needs.{needs}
 use Rattle.openings_v5.proofs.accept.Statement.{statement}
@@ -32,9 +32,7 @@ returns : tie.Need-returns
 returns c =
     let a = c .before .before .before .before .before .before .before .before .before .before .before .args in
     let v : V5 = record { config = a .config; host = a .host .now; port = a .port; user = a .user .now; password = a .password .now; records = recordsOf (a .chosen) } in
-    let k = c .before .before .before .before .before .before .keep in
-    let m = c .before .before .before .before .before .method-of in
-    accepts5 v (k .ensures) (sends-method (k .result) (m .ensures) (c .before .before .before .begin .ensures)) (c .fresh .ensures)
+    accepts5 v (c .before .before .before .before .before .before .keep .ensures) (c .before .before .before .before .before .method-of .ensures) (c .before .before .before .begin .ensures) (c .fresh .ensures)
 
 pub accept-spec : {M : Type 1} → statement M
 accept-spec =

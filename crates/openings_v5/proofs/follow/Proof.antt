@@ -1,8 +1,4 @@
-use Rattle.protocol.specs.declared.Reply.the-variants.{ProxyRes}
-use Rattle.sending.specs.Stages.{requestsOf}
-use Rattle.openings_v5.proofs.Beginning.{sends-as}
 use native.Mathlib.Omega.{arith}
-use mathlib.Core.Path.{refl}
 use Rattle.sending.proofs.Sending.{wrote-none}
 use borrow.Author.Needs.{needs}
 use Rattle.openings_v5.proofs.follow.Statement.{statement}
@@ -11,8 +7,8 @@ use Rattle.openings_v5.proofs.follow.Tie as tie
 enum-told : tie.Need-enum-told
 enum-told c = search needs
 
-send-proxy-requires : tie.Need-send-proxy-requires
-send-proxy-requires c κs = search needs
+put-proxy-requires : tie.Need-put-proxy-requires
+put-proxy-requires c κs = search needs
 
 enum-told-2 : tie.Need-enum-told-2
 enum-told-2 c = search needs
@@ -27,10 +23,7 @@ same-length : tie.Need-same-length
 same-length c = search needs
 
 returns : tie.Need-returns
-returns c =
-    let start = c .before .before .before .before .before .before .before in
-    let k = start .args .kept in
-    rw (c .before .before .before .before .enum-told .given .1) (sends-as (k .optimistic) 3 3 (requestsOf k .proxy) ProxyRes (start .pre .0) refl (c .before .before .send-proxy .ensures))
+returns c = rw (c .before .before .before .before .enum-told .given .1) (c .before .before .put-proxy .ensures)
 
 same-length-2 : tie.Need-same-length-2
 same-length-2 c = search needs
@@ -40,16 +33,15 @@ returns-2 c = rw (c .before .before .before .before .enum-told2 .given .1) (c .b
 
 returns-3 : tie.Need-returns-3
 returns-3 c =
-    let a = c .before .before .before .args in
-    let p = c .before .before .before .pre in
-    rw (c .enum-told3 .given .1) (record { staged = refl; wrote = wrote-none (a .out .now) (a .at) (omega arith) })
+    let start = c .before .before .before in
+    rw (c .enum-told3 .given .1) (wrote-none (start .args .out .now) (start .args .at) (omega (arith, start .pre)))
 
 pub follow-spec : {M : Type 1} → statement M
 follow-spec =
     tie.close
     (tie.spec
     enum-told
-    send-proxy-requires
+    put-proxy-requires
     enum-told-2
     follow-authentication-requires
     enum-told-3

@@ -24,19 +24,18 @@ same-length : tie.Need-same-length
 same-length c = search needs
 
 returns : tie.Need-returns
-returns c = rw (c .before .before .before .before .enum-told .given .1) (c .before .before .send-proxy .ensures)
+returns c = rw (c .before .before .before .before .enum-told .given .1) (record { staged = refl; wrote = c .before .before .send-proxy .ensures })
 
 same-length-2 : tie.Need-same-length-2
 same-length-2 c = search needs
 
 returns-2 : tie.Need-returns-2
-returns-2 c = rw (c .before .before .before .before .enum-told2 .given .1) (c .before .before .send-authentication .ensures)
+returns-2 c = rw (c .before .before .before .before .enum-told2 .given .1) (record { staged = refl; wrote = c .before .before .send-authentication .ensures })
 
 returns-3 : tie.Need-returns-3
 returns-3 c =
-    let a = c .before .before .before .args in
-    let p = c .before .before .before .pre in
-    rw (c .enum-told3 .given .1) (record { staged = refl; wrote = wrote-none (a .out .now) (a .at) (omega arith) })
+    let start = c .before .before .before in
+    rw (c .enum-told3 .given .1) (record { staged = refl; wrote = wrote-none (start .args .out .now) (start .args .at) (omega (arith, start .pre)) })
 
 pub send-after-method-spec : {M : Type 1} → statement M
 send-after-method-spec =

@@ -1,7 +1,5 @@
 use native.Mathlib.Omega.{arith}
 use mathlib.Core.Path.{refl}
-use Rattle.sending.specs.Stages.{requestsOf}
-use Rattle.sending.proofs.Stages.{sent-small}
 use Rattle.sending.proofs.Sending.{wrote-none}
 use borrow.Author.Needs.{needs}
 use Rattle.sending.proofs.send_judged.Statement.{statement}
@@ -24,9 +22,8 @@ returns c = rw (c .before .before .before .before .enum-told .given .1) (c .befo
 
 returns-2 : tie.Need-returns-2
 returns-2 c =
-    let a = c .before .before .before .before .args in
-    let p = c .before .before .before .before .pre in
-    rw (c .before .verdict .given .1) (record { staged = refl; wrote = wrote-none (a .out .now) (a .at) (omega (arith, sent-small (requestsOf (a .kept)) (a .reply))) })
+    let start = c .before .before .before .before in
+    rw (c .before .verdict .given .1) (record { staged = refl; wrote = wrote-none (start .args .out .now) (start .args .at) (omega (arith, start .pre)) })
 
 pub send-judged-spec : {M : Type 1} → statement M
 send-judged-spec =

@@ -2,7 +2,6 @@ use native.Mathlib.Omega.{arith}
 use mathlib.Core.List.{_++_}
 use lib.ListN.{length-append}
 use Rattle.sending.specs.Stages.{requestsOf}
-use Rattle.sending.proofs.Stages.{sent-small}
 use Rattle.turns.proofs.Turning.{turn-undecided, turn-decided, decided-inside}
 use borrow.Author.Needs.{needs}
 use Rattle.turns.proofs.read_turn.Statement.{statement}
@@ -38,7 +37,7 @@ returns c =
     let a = c .before .before .before .before .before .before .args in
     let p = c .before .before .before .before .before .before .pre in
     let r = c .before .before .read-at .ensures in
-    turn-undecided (requestsOf (a .kept)) (a .reply) (a .held .now ++ a .piece .now) (a .place) (a .out .now) (a .at) (r .0) (r .1) (c .enum-told .given .1) (omega (arith, sent-small (requestsOf (a .kept)) (a .reply)))
+    turn-undecided (requestsOf (a .kept)) (a .reply) (a .held .now ++ a .piece .now) (a .place) (a .out .now) (a .at) (r .0) (r .1) (c .enum-told .given .1) (omega (arith, p .2))
 
 same-length : tie.Need-same-length
 same-length c = search needs

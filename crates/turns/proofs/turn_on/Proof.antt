@@ -1,12 +1,10 @@
 use native.Mathlib.Omega.{arith}
 use mathlib.Core.Path.{ap, refl}
 use mathlib.Core.List.{_++_}
-use Rattle.sending.specs.declared.Stage.{Stage}
 use Rattle.sending.specs.declared.Stage.the-variants.{Failed}
 use Rattle.sending.specs.Stages.{requestsOf}
 use Rattle.sending.specs.Stages.{rank}
-use Rattle.sending.specs.Due.{sentBefore}
-use Rattle.sending.proofs.Stages.{stage-small}
+use Rattle.sending.specs.Due.{stillDue}
 use Rattle.turns.proofs.Turning.{turn-settled}
 use borrow.Author.Needs.{needs}
 use Rattle.turns.proofs.turn_on.Statement.{statement}
@@ -20,8 +18,8 @@ read-turn-requires c κs =
     let start = c .before .before .before .before .before .before .before in
     let a = start .args in
     let p = start .pre in
-    let e = ap (λ (s : Stage). sentBefore (requestsOf (a .kept)) s) (c .before .before .stage .given .1) in
-    (p .0, p .1, omega (arith, e, p .2), p .3)
+    let e = ap stillDue (c .before .before .stage .given .1) in
+    (p .0, p .1, omega (arith, e, p .2))
 
 enum-told : tie.Need-enum-told
 enum-told c = search needs
@@ -40,14 +38,14 @@ returns-2 c =
     let a = c .before .before .before .before .before .args in
     let p = c .before .before .before .before .before .pre in
     let z = ap rank (c .enum-told .given .1) in
-    turn-settled (requestsOf (a .kept)) (a .turn .stage) (a .held .now ++ a .piece .now) (a .turn .place) (a .out .now) (a .turn .sent) z (omega (arith, p .2, p .3, stage-small (requestsOf (a .kept)) (a .turn .stage)))
+    turn-settled (requestsOf (a .kept)) (a .turn .stage) (a .held .now ++ a .piece .now) (a .turn .place) (a .out .now) (a .turn .sent) z (omega (arith, p .2))
 
 returns-3 : tie.Need-returns-3
 returns-3 c =
     let a = c .before .before .before .before .before .before .args in
     let p = c .before .before .before .before .before .before .pre in
     let e = c .before .stage2 .given in
-    rw (e .1) (turn-settled (requestsOf (a .kept)) (Failed (e .0 .0)) (a .held .now ++ a .piece .now) (a .turn .place) (a .out .now) (a .turn .sent) refl (omega (arith, p .2, p .3, stage-small (requestsOf (a .kept)) (a .turn .stage))))
+    rw (e .1) (turn-settled (requestsOf (a .kept)) (Failed (e .0 .0)) (a .held .now ++ a .piece .now) (a .turn .place) (a .out .now) (a .turn .sent) refl (omega (arith, p .2)))
 
 pub turn-on-spec : {M : Type 1} → statement M
 turn-on-spec =

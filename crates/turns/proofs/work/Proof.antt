@@ -2,7 +2,9 @@ use borrow.Author.Needs.{needs}
 use native.Mathlib.Omega.{arith}
 use mathlib.Core.List.{_++_}
 use lib.ListN.{length-append}
+use Prim.Native.Nat.{_≤_}
 use Rattle.sending.specs.Stages.{requestsOf}
+use Rattle.sending.proofs.Sending.{kept-limits}
 use Rattle.turns.specs.Turns.{onStage}
 use Rattle.wire.proofs.Laws.{wrote-length}
 use Rattle.turns.proofs.Turning.{Going, going-start, going-on, going-last, going-out}
@@ -16,10 +18,21 @@ Inv-loop kept held piece out₀ turn₀ left₀ out turn left =
 abbrev μ-loop : tie.MeasureT-loop
 μ-loop kept held piece out₀ turn₀ left₀ out turn left = left
 
+user-small : (c : tie.Start Inv-loop μ-loop) → c .args .kept .«user_len» ≤ 255
+user-small c = search needs
+
+password-small : (c : tie.Start Inv-loop μ-loop) → c .args .kept .«password_len» ≤ 255
+password-small c = search needs
+
+address-small : (c : tie.Start Inv-loop μ-loop) → c .args .kept .address .len ≤ 255
+address-small c = search needs
+
 loop-holds : tie.Need-loop-holds Inv-loop μ-loop
 loop-holds c =
-    let a = c .before .before .before .args in
-    going-start (requestsOf (a .kept)) (a .reply) (a .held .now ++ a .piece .now) (a .out .now)
+    let start = c .before .before .before in
+    let a = start .args in
+    let l = kept-limits (a .kept) (user-small start) (password-small start) (address-small start) in
+    going-start (requestsOf (a .kept)) (a .reply) (a .held .now ++ a .piece .now) (a .out .now) l (start .pre .1)
 
 sub-left : tie.Need-sub-left Inv-loop μ-loop
 sub-left c = search needs
@@ -30,11 +43,8 @@ turn-on-requires c κs =
     let p = c .before .before .before .before .before .before .pre in
     let l = c .before .before .loop in
     let g = l .inv in
-    let w = wrote-length (g .wrote) in
-    let n = g .wrote .place in
-    let r = g .room in
     let i = g .inside in
-    (p .0, omega (arith, i, length-append (a .held .now) (a .piece .now)), omega (arith, n, r), omega (arith, w, p .1))
+    (p .0, omega (arith, i, length-append (a .held .now) (a .piece .now)), g .room)
 
 loop-less : tie.Need-loop-less Inv-loop μ-loop
 loop-less c = search needs

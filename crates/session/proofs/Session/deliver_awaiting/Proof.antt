@@ -4,13 +4,17 @@ use borrow.Author.Needs.{needs}
 use Rattle.session.proofs.Session.deliver_awaiting.Statement.{statement}
 use Rattle.session.proofs.Session.deliver_awaiting.Tie as tie
 
+room-of-requires : tie.Need-room-of-requires
+room-of-requires c κs = search needs
+
 refused-requires : tie.Need-refused-requires
 refused-requires c κs = search needs
 
 returns : tie.Need-returns
 returns c =
-    let a = c .before .before .before .before .args in
-    deliver-short (a .self) (a .piece .now) (a .out .now) (c .before .before .before .before .pre) (c .before .if1 .taken) (c .refused .ensures)
+    let start = c .before .before .before .before .before in
+    let a = start .args in
+    deliver-short (a .self) (a .piece .now) (a .out .now) (start .pre) (omega (arith, c .before .before .room-of .ensures, c .before .if1 .taken)) (c .refused .ensures)
 
 take-requires : tie.Need-take-requires
 take-requires c κs = search needs
@@ -20,10 +24,11 @@ same-length c = search needs
 
 returns-2 : tie.Need-returns-2
 returns-2 c =
-    let a = c .before .before .before .before .before .before .before .args in
-    let l = c .before .before .before .before .if1 .left in
-    deliver-takes (a .self) (a .piece .now) (a .out .now) (c .before .before .before .before .before .before .before .pre) (omega arith) (c .before .before .take .ensures)
+    let start = c .before .before .before .before .before .before .before .before in
+    let a = start .args in
+    deliver-takes (a .self) (a .piece .now) (a .out .now) (start .pre) (omega (arith, c .before .before .before .before .before .room-of .ensures, c .before .before .before .before .if1 .left)) (c .before .before .take .ensures)
 
 pub deliver-awaiting-spec : {M : Type 1} → statement M
 deliver-awaiting-spec =
-    tie.close (tie.spec refused-requires returns take-requires same-length returns-2)
+    tie.close
+    (tie.spec room-of-requires refused-requires returns take-requires same-length returns-2)

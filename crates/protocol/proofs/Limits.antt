@@ -1,0 +1,144 @@
+-- F-4: each request of an accepted opening keeps to its limit, so that over v5 at most 778 bytes are sent in all; and no number is 11.
+use Prim.Native.Nat.{ℕ, _+_, _≤_, _<_}
+use native.Mathlib.Omega.{arith}
+use mathlib.Core.Path.{_≡_, refl, ap, sym, _∙_}
+use mathlib.Core.Logic.{_⊎_, inl, inr}
+use mathlib.Core.Option.{Option, none, some}
+use mathlib.Core.Bool.{Bool, true, false, cond}
+use mathlib.Core.List.{List, [], _∷_, _++_, List·Memᴰ, List·Memᴰ·head}
+use lib.ListN.{length, length-append, length-take}
+use lib.Dec.{leb}
+use borrow.Author.Tests.{leb-true, leb-false}
+use Rattle.protocol.specs.declared.AuthMethod.{AuthMethod}
+use Rattle.protocol.specs.declared.AuthMethod.the-variants.{NoAuth, UserPass, NoneAcceptable}
+use Rattle.protocol.specs.declared.Family.{Family}
+use Rattle.protocol.specs.declared.Family.the-variants.{Four, Six}
+use Rattle.protocol.specs.declared.Record.{Record}
+use Rattle.protocol.specs.declared.SocksError.{SocksError}
+use Rattle.protocol.specs.declared.SocksError.the-variants.{ShortOutput, MissingHost, HostByte, MissingPort, CredentialTooLong, HostTooLong, IpV6, DnsFailure, UnexpectedEof, Parsing, Unsupported, MethodMismatch, Failed, Command, Settled}
+use Rattle.protocol.specs.declared.Answer.{Answer}
+use Rattle.protocol.specs.declared.Answer.the-variants.{Accepted, Refused}
+use Rattle.protocol.specs.declared.Outcome.{Outcome}
+use Rattle.protocol.specs.declared.Outcome.the-variants as Out
+use Rattle.protocol.specs.declared.Outcome.the-variants.{Waiting, Open}
+use Rattle.protocol.specs.Bytes.{two}
+use Rattle.protocol.specs.Numbers.{number, answerNumber, outcomeNumber}
+use Rattle.protocol.specs.Host.{strip}
+use Rattle.protocol.specs.AddressText.{Name}
+use Rattle.protocol.specs.AddressReading.{Destination, ipv4, ipv6, domain, destinationOf}
+use Rattle.protocol.specs.Requests.{negotiationReq, authenticationReq, addressField, proxyReq}
+use Rattle.protocol.specs.Opening.{V5, recordFamily, firstRecord, check5, Opening, v5, Credentials, noAuth, userPass, asked5, orElse, credentialsIf, portNumber, opening5, Limits}
+use Rattle.protocol.specs.Machine.{sends}
+use Rattle.protocol.proofs.Openings.{check5-just}
+use Rattle.protocol.proofs.Destinations.{ipv4-length, ipv6-length, domain-is, name-just}
+
+pub greeting-size : (m : AuthMethod) → length (negotiationReq m) ≡ 3
+unfolding negotiationReq
+greeting-size NoAuth = refl
+greeting-size UserPass = refl
+greeting-size NoneAcceptable = refl
+
+pub credentials-limit : (u p : List ℕ) → length u ≤ 255 → length p ≤ 255 → length (authenticationReq u p) ≤ 513
+unfolding authenticationReq
+credentials-limit u p h k = omega (arith, length-append u (length p ∷ p))
+
+-- a destination of at most 255 bytes
+abbrev Short : Destination → Type 0
+Short (ipv4 bs) = length bs ≤ 255
+Short (ipv6 bs) = length bs ≤ 255
+Short (domain s) = length s ≤ 255
+
+pub connect-limit : (d : Destination) (port : ℕ) → Short d → length (proxyReq d port) ≤ 262
+unfolding proxyReq addressField
+connect-limit (ipv4 bs) port h = omega (arith, length-append bs (two port))
+connect-limit (ipv6 bs) port h = omega (arith, length-append bs (two port))
+connect-limit (domain s) port h = omega (arith, length-append s (two port))
+
+-- ---- an accepted opening
+
+at-most : (n : ℕ) → (255 < n → ⊥) → n ≤ 255
+at-most n h = go (leb n 255) refl
+  where
+    go : (b : Bool) → leb n 255 ≡ b → n ≤ 255
+    go true e = leb-true n 255 e
+    go false e = absurd (h (leb-false n 255 e))
+
+-- each record has sixteen address bytes, as the array has
+abbrev Sixteen : List Record → Type 0
+Sixteen rs = (r : Record) → List·Memᴰ r rs → length (r .address) ≡ 16
+
+family-short : (f : Family) (bs : List ℕ) → length bs ≡ 16 → Short (recordFamily f bs)
+family-short Four bs l = omega (arith, length-take 4 bs)
+family-short Six bs l = omega arith
+
+found-short : (lookup : Bool) (rs : List Record) (n : List ℕ) → Sixteen rs → length n ≤ 255 → Short (cond lookup (orElse (firstRecord rs) (domain n)) (domain n))
+found-short false rs n x h = h
+found-short true [] n x h = h
+found-short true (r ∷ rs) n x h = family-short (r .family) (r .address) (x r (List·Memᴰ·head refl))
+
+asked-short : (lookup : Bool) (rs : List Record) (s : List ℕ) → Sixteen rs → (Name s × (255 < length s) → ⊥) → Short (asked5 lookup rs (destinationOf s))
+asked-short lookup rs s x h = go (destinationOf s) refl
+  where
+    go : (d : Destination) → destinationOf s ≡ d → Short (asked5 lookup rs d)
+    go (ipv4 bs) e = omega (arith, ipv4-length s bs e)
+    go (ipv6 bs) e = omega (arith, ipv6-length s bs e)
+    go (domain n) e =
+        let k = domain-is s n e in
+        let w : Name s = name-just s .0 (e ∙ ap domain k) in
+        found-short lookup rs n x (rw k (at-most (length s) (λ l. h (w, l))))
+
+limits-of : (b : Bool) (u p : List ℕ) (d : Destination) (port : ℕ) (o : Bool) → ((b ≡ true) × ((255 < length u) ⊎ (255 < length p)) → ⊥) → Short d
+    → Limits (v5 (credentialsIf b u p) d port o)
+limits-of false u p d port o h k = (greeting-size NoAuth, connect-limit d port k)
+limits-of true u p d port o h k = (
+  greeting-size UserPass,
+  credentials-limit u p (at-most (length u) (λ l. h (refl, inl l))) (at-most (length p) (λ l. h (refl, inr l))),
+  connect-limit d port k,
+)
+
+pub limits5 : (room : ℕ) (a : V5) → Sixteen (a .records) → check5 room a ≡ Accepted → Limits (opening5 a)
+unfolding opening5
+limits5 room a x e =
+    let n = check5-just room a .accepts .0 (ap answerNumber e) in
+    let c = n .1 .1 .1 .1 in
+    limits-of (a .config .«proxy_auth») (a .user) (a .password) _ (portNumber (a .port)) (a .config .optimistic) (c .0)
+    (asked-short (a .config .«local_dns») (a .records) (strip (a .host)) x (c .1 .0))
+
+-- ---- what is sent in all
+
+lengths : List (List ℕ) → ℕ
+lengths [] = 0
+lengths (q ∷ qs) = length q + lengths qs
+
+sends-length : (qs : List (List ℕ)) (sent : List ℕ) → length (sends qs sent) ≡ length sent + lengths qs
+unfolding lengths
+sends-length [] sent = omega arith
+sends-length (q ∷ qs) sent = omega (arith, sends-length qs (sent ++ q), length-append sent q)
+
+-- ---- no number is 11
+
+never : (e : SocksError) → number e ≡ 11 → ⊥
+never ShortOutput q = omega arith
+never MissingHost q = omega arith
+never HostByte q = omega arith
+never MissingPort q = omega arith
+never CredentialTooLong q = omega arith
+never HostTooLong q = omega arith
+never IpV6 q = omega arith
+never DnsFailure q = omega arith
+never UnexpectedEof q = omega arith
+never Parsing q = omega arith
+never Unsupported q = omega arith
+never MethodMismatch q = omega arith
+never Failed q = omega arith
+never (Command s) q = omega arith
+never Settled q = omega arith
+
+pub answer-not-11 : (x : Answer) → answerNumber x ≡ 11 → ⊥
+answer-not-11 Accepted q = omega arith
+answer-not-11 (Refused e) q = never e q
+
+pub outcome-not-11 : (x : Outcome) → outcomeNumber x ≡ 11 → ⊥
+outcome-not-11 Waiting q = omega arith
+outcome-not-11 Open q = omega arith
+outcome-not-11 (Out.Failed e) q = never e q

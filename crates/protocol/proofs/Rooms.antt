@@ -1,0 +1,67 @@
+-- F-4: all waits of a talk ask for the output of one version, so a session asks for its opening's as long as it waits.
+use Prim.Native.Nat.{ℕ}
+use native.Mathlib.Omega.{arith}
+use mathlib.Core.Path.{_≡_, refl, ap, sym, _∙_}
+use mathlib.Core.Bool.{Bool, true, false}
+use mathlib.Core.List.{List}
+use lib.ListN.{take, drop}
+use Rattle.protocol.specs.declared.AuthMethod.{AuthMethod}
+use Rattle.protocol.specs.declared.AuthMethod.the-variants.{NoAuth, UserPass, NoneAcceptable}
+use Rattle.protocol.specs.declared.Reply.{Reply}
+use Rattle.protocol.specs.declared.Reply.the-variants.{NegotiationRes, AuthenticationRes, ProxyRes, Response}
+use Rattle.protocol.specs.declared.SocksError.{SocksError}
+use Rattle.protocol.specs.Opening.{Opening, v5, v4, noAuth, userPass, deliveryRoom}
+use Rattle.protocol.specs.Replies.{decide}
+use Rattle.protocol.specs.Client.{Kept, ClientTalk, due, afterMethod, talkAt, told, client, kept, begun, side, room}
+use Rattle.talk.specs.Decision.{Decision, undecided, decided, good, bad}
+use Rattle.talk.specs.Talk.{Session, waiting, ended, stop, send, await, deciding, feed}
+
+abbrev Asks : ℕ → ClientTalk → Type 0
+Asks r (stop e) = Unit {0}
+Asks r (send q t) = Asks r t
+Asks r (await e k) = (room e ≡ r) × ((m : List ℕ) → Asks r (k m))
+
+due-asks : (r : ℕ) (o : Bool) (q : List ℕ) (t : ClientTalk) → Asks r t → Asks r (due o q t)
+due-asks r true q t a = a
+due-asks r false q t a = a
+
+method-asks : (c : Kept) (m : AuthMethod) → Asks 778 (afterMethod m c)
+method-asks c NoAuth = due-asks 778 (c .optimistic) (c .proxy) _ (refl, λ m. tt)
+method-asks c UserPass = due-asks 778 (c .optimistic) (c .authentication) _ (refl, λ m. due-asks 778 (c .optimistic) (c .proxy) _ (refl, λ m. tt))
+method-asks c NoneAcceptable = tt
+
+talk-asks : (c : Kept) (e : Reply) → Asks (room e) (talkAt c e)
+talk-asks c (NegotiationRes m) = (refl, λ r. method-asks c m)
+talk-asks c AuthenticationRes = (refl, λ m. due-asks 778 (c .optimistic) (c .proxy) _ (refl, λ m. tt))
+talk-asks c ProxyRes = (refl, λ m. tt)
+talk-asks c Response = (refl, λ m. tt)
+
+begun-asks : (o : Opening) → Asks (deliveryRoom o) (begun o)
+begun-asks (v5 noAuth d port true) = talk-asks (kept (v5 noAuth d port true)) (NegotiationRes NoAuth)
+begun-asks (v5 noAuth d port false) = talk-asks (kept (v5 noAuth d port false)) (NegotiationRes NoAuth)
+begun-asks (v5 (userPass u p) d port true) = talk-asks (kept (v5 (userPass u p) d port true)) (NegotiationRes UserPass)
+begun-asks (v5 (userPass u p) d port false) = talk-asks (kept (v5 (userPass u p) d port false)) (NegotiationRes UserPass)
+begun-asks (v4 d port) = talk-asks (kept (v4 d port)) Response
+
+-- a session that waits asks for so much output
+abbrev pub Waits : ℕ → Session Reply Unit SocksError → Type 0
+Waits r (waiting e h) = room e ≡ r
+Waits r (ended x) = Unit {0}
+
+feed-waits : (c : Kept) (r : ℕ) (t : ClientTalk) → Asks r t → (bs : List ℕ) → Waits r (feed (client c) t bs .session)
+unfolding feed
+feed-waits c r (stop x) a bs = tt
+feed-waits c r (send q t) a bs = feed-waits c r t a bs
+feed-waits c r (await s k) (p, f) bs = go (told (decide s bs)) (λ n. feed-waits c r (k (take n bs)) (f (take n bs)) (drop n bs))
+  where
+    go : (d : Decision SocksError) → ((n : ℕ) → Waits r (feed (client c) (k (take n bs)) (drop n bs) .session))
+        → Waits r (deciding d (waiting s bs) (λ n. feed (client c) (k (take n bs)) (drop n bs)) .session)
+    go undecided ih = p
+    go (decided n good) ih = ih n
+    go (decided n (bad x)) ih = tt
+
+pub begun-waits : (o : Opening) (bs : List ℕ) → Waits (deliveryRoom o) (feed (side o) (begun o) bs .session)
+begun-waits o bs = feed-waits (kept o) (deliveryRoom o) (begun o) (begun-asks o) bs
+
+pub onward-waits : (c : Kept) (r : ℕ) (e : Reply) → room e ≡ r → (bs : List ℕ) → Waits r (feed (client c) (talkAt c e) bs .session)
+onward-waits c r e q bs = rw (← q) (feed-waits c (room e) (talkAt c e) (talk-asks c e) bs)
