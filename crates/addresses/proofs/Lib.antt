@@ -2,4 +2,3 @@ pub mod Lists
 pub mod Dots
 pub mod Colons
 pub mod Gaps
-pub mod Addresses
