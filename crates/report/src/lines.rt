@@ -8,11 +8,10 @@ ghost use Rattle.report.specs.Lines.{Within};
 use crate::text::Results;
 use crate::text::put_answers;
 use crate::text::put_byte;
-use crate::text::put_bytes;
-use crate::text::put_decimal;
-use crate::text::put_hex;
 use crate::text::put_results;
+use crate::text::put_wrong;
 use libc::STDOUT_FILENO;
+use numerals::put_hex;
 
 // A line from its start to its end in the text. begun: some of it was written out already.
 pub struct Line {
@@ -112,9 +111,7 @@ pub fn put_notice(line: Line, what: &[u8], offset: u64, text: &mut [u8]) -> usiz
 {
     let from = notice_at(line, text);
     let at = room(text, from, 64);
-    let end = put_bytes(what, text, at);
-    let next = put_decimal(offset, text, end);
-    put_byte(b'\n', text, next)
+    put_wrong(what, offset, text, at)
 }
 
 // The line of a whole case, behind its rests.

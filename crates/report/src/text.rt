@@ -3,36 +3,13 @@ ghost use mathlib.Core.Path.{_≡_};
 ghost use Prim.Native.Nat.{_+_, _*_, _≤_, _<_};
 ghost use mathlib.Core.List.{_∷_, []};
 ghost use lib.ListN.{length};
-ghost use Rattle.io.specs.Digits.{glyph};
-ghost use Rattle.report.specs.Text.{Adds, hexOf, fieldOf, decimalOf, numberText, answerNumber, outcomeText, statusOf, stateText, sentText, resultsText, moreText, numbersText, endText, answersText};
+ghost use Rattle.numerals.specs.Added.{Adds};
+ghost use Rattle.numerals.specs.Digits.{decimalOf};
+ghost use Rattle.report.specs.Text.{fieldOf, numberText, answerNumber, outcomeText, statusOf, stateText, sentText, resultsText, moreText, numbersText, endText, answersText, noticeText};
+use numerals::put_decimal;
+use numerals::put_hex;
 use protocol::Answer;
 use protocol::Outcome;
-
-// The ASCII code of a digit below 16.
-fn hex_digit(d: u8) -> u8
-    requires { ⌜ d < 16 ⌝ }
-    ensures { λ r. ⌜ r ≡ glyph d ⌝ }
-{
-    if d < 10 { 48 + d } else { 87 + d }
-}
-
-// Two digits for each byte.
-pub fn put_hex(s: &[u8], text: &mut [u8], at: usize) -> usize
-    requires { ⌜ at + 2 * length (now s) ≤ length (now text) ⌝ }
-    ensures { λ r. ⌜ r ≡ at + 2 * length (now (s .entry)) ⌝ }
-    ensures { λ r. ⌜ Adds (now (text .entry)) at (hexOf (now (s .entry))) r (now (text .exit)) ⌝ }
-{
-    let mut i = 0;
-    let mut end = at;
-    while i < s.len() {
-        let b = s[i];
-        text[end] = hex_digit(b / 16);
-        text[end + 1] = hex_digit(b % 16);
-        end += 2;
-        i += 1;
-    }
-    end
-}
 
 pub fn put_bytes(s: &[u8], text: &mut [u8], at: usize) -> usize
     requires { ⌜ at + length (now s) ≤ length (now text) ⌝ }
@@ -68,16 +45,6 @@ fn put_field(s: &[u8], text: &mut [u8], at: usize) -> usize
         return put_byte(b'-', text, at);
     }
     put_hex(s, text, at)
-}
-
-pub fn put_decimal(n: u64, text: &mut [u8], at: usize) -> usize
-    requires { ⌜ at + 20 ≤ length (now text) ⌝ }
-    ensures { λ r. ⌜ r ≤ at + 20 ⌝ }
-    ensures { λ r. ⌜ Adds (now (text .entry)) at (decimalOf n) r (now (text .exit)) ⌝ }
-{
-    let mut digits = [0u8; 20];
-    let k = io::decimal(n, &mut digits);
-    put_bytes(&digits[..k], text, at)
 }
 
 // The number of a call or a failure, which three digits hold.
@@ -226,4 +193,15 @@ pub fn put_answers(answers: &[u8], ended: bool, answer: u8, text: &mut [u8], at:
     let next = put_byte(b' ', text, first);
     let last = put_end(ended, answer, text, next);
     put_byte(b'\n', text, last)
+}
+
+// What is wrong with the case at an offset.
+pub fn put_wrong(what: &[u8], offset: u64, text: &mut [u8], at: usize) -> usize
+    requires { ⌜ at + length (now what) + 21 ≤ length (now text) ⌝ }
+    ensures { λ r. ⌜ r ≤ at + length (now (what .entry)) + 21 ⌝ }
+    ensures { λ r. ⌜ Adds (now (text .entry)) at (noticeText (now (what .entry)) offset) r (now (text .exit)) ⌝ }
+{
+    let end = put_bytes(what, text, at);
+    let next = put_decimal(offset, text, end);
+    put_byte(b'\n', text, next)
 }

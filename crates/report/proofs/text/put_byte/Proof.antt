@@ -1,4 +1,4 @@
-use Rattle.report.proofs.Added.{one}
+use Rattle.numerals.proofs.Laws.{one}
 use borrow.Author.Needs.{needs}
 use Rattle.report.proofs.text.put_byte.Statement.{statement}
 use Rattle.report.proofs.text.put_byte.Tie as tie

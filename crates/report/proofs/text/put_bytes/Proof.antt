@@ -1,6 +1,7 @@
 use borrow.Author.Needs.{needs}
-use Rattle.report.proofs.Added.{nothing, more}
-use Rattle.report.specs.Text.{Adds}
+use Rattle.numerals.proofs.Laws.{nothing}
+use Rattle.report.proofs.Added.{more}
+use Rattle.numerals.specs.Added.{Adds}
 use lib.Seq.{take-all}
 use lib.ListN.{length, take, length-set}
 use native.Mathlib.Omega.{arith}

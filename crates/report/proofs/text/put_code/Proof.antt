@@ -1,22 +1,19 @@
-use Rattle.report.proofs.Added.{few}
-use Rattle.report.specs.Text.{decimalOf}
+use Rattle.numerals.proofs.Laws.{few}
 use native.Mathlib.Omega.{arith}
-use Prim.Native.Nat.{_^_, _<_}
 use borrow.Author.Needs.{needs}
 use Rattle.report.proofs.text.put_code.Statement.{statement}
 use Rattle.report.proofs.text.put_code.Tie as tie
 
 put-decimal-requires : tie.Need-put-decimal-requires
-put-decimal-requires c κs = search needs
+put-decimal-requires c κs = omega (arith, few 2 (c .before .before .args .n) (omega arith))
 
 same-length : tie.Need-same-length
 same-length c = search needs
 
 returns : tie.Need-returns
-unfolding decimalOf
-returns c = let n = c .before .before .before .before .before .args .n in
-    let h : n < 10 ^ 3 = omega arith in
-    (omega (arith, few 20 2 n h, c .before .before .put-decimal .ensures .1 .place), c .before .before .put-decimal .ensures .1)
+returns c =
+    let d = c .before .before .put-decimal .ensures in
+    (omega (arith, few 2 (c .before .before .before .before .before .args .n) (omega arith), d .place), d)
 
 pub put-code-spec : {M : Type 1} → statement M
 put-code-spec = tie.close (tie.spec put-decimal-requires same-length returns)

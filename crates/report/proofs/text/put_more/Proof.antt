@@ -1,5 +1,7 @@
-use Rattle.report.proofs.Added.{nothing, then, more-numbers}
-use Rattle.report.specs.Text.{Adds, moreText}
+use Rattle.numerals.proofs.Laws.{nothing, then}
+use Rattle.report.proofs.Added.{more-numbers}
+use Rattle.numerals.specs.Added.{Adds}
+use Rattle.report.specs.Text.{moreText}
 use lib.Seq.{take-all}
 use lib.ListN.{length, take}
 use mathlib.Core.Path.{_≡_, refl}

@@ -1,4 +1,5 @@
-use Rattle.report.proofs.Added.{then, no-numbers, some-numbers}
+use Rattle.numerals.proofs.Laws.{then}
+use Rattle.report.proofs.Added.{no-numbers, some-numbers}
 use native.Mathlib.Omega.{arith}
 use borrow.Author.Needs.{needs}
 use Rattle.report.proofs.text.put_numbers.Statement.{statement}

@@ -1,4 +1,4 @@
-use Rattle.report.proofs.Added.{then}
+use Rattle.numerals.proofs.Laws.{then}
 use Rattle.report.specs.Text.{resultsText}
 use borrow.Author.Needs.{needs}
 use Rattle.report.proofs.text.put_results.Statement.{statement}

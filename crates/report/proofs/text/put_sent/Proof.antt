@@ -1,4 +1,4 @@
-use Rattle.report.proofs.Added.{then}
+use Rattle.numerals.proofs.Laws.{then}
 use borrow.Author.Needs.{needs}
 use Rattle.report.proofs.text.put_sent.Statement.{statement}
 use Rattle.report.proofs.text.put_sent.Tie as tie

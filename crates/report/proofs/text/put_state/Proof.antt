@@ -1,4 +1,4 @@
-use Rattle.report.proofs.Added.{then}
+use Rattle.numerals.proofs.Laws.{then}
 use borrow.Author.Needs.{needs}
 use Rattle.report.proofs.text.put_state.Statement.{statement}
 use Rattle.report.proofs.text.put_state.Tie as tie
