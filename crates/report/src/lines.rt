@@ -7,7 +7,6 @@ ghost use lib.ListN.{length};
 ghost use Rattle.report.specs.Lines.{Within};
 use crate::text::Results;
 use crate::text::put_answers;
-use crate::text::put_byte;
 use crate::text::put_results;
 use crate::text::put_wrong;
 use libc::STDOUT_FILENO;
@@ -87,7 +86,8 @@ pub fn end_rests(line: Line, text: &mut [u8]) -> usize
 {
     let at = room(text, line.end, 2);
     if is_empty(line) {
-        return put_byte(b'-', text, at);
+        text[at] = b'-';
+        return at + 1;
     }
     at
 }
@@ -99,7 +99,8 @@ fn notice_at(line: Line, text: &mut [u8]) -> usize
 {
     if line.begun {
         let at = room(text, line.end, 1);
-        return put_byte(b'\n', text, at);
+        text[at] = b'\n';
+        return at + 1;
     }
     line.start
 }

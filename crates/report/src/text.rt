@@ -26,15 +26,6 @@ pub fn put_bytes(s: &[u8], text: &mut [u8], at: usize) -> usize
     end
 }
 
-pub fn put_byte(b: u8, text: &mut [u8], at: usize) -> usize
-    requires { ⌜ at < length (now text) ⌝ }
-    ensures { λ r. ⌜ r ≡ at + 1 ⌝ }
-    ensures { λ r. ⌜ Adds (now (text .entry)) at (b ∷ []) r (now (text .exit)) ⌝ }
-{
-    text[at] = b;
-    at + 1
-}
-
 // Bytes in hexadecimal, or `-` if there are none.
 fn put_field(s: &[u8], text: &mut [u8], at: usize) -> usize
     requires { ⌜ at + 2 * length (now s) + 1 ≤ length (now text) ⌝ }
@@ -42,7 +33,8 @@ fn put_field(s: &[u8], text: &mut [u8], at: usize) -> usize
     ensures { λ r. ⌜ Adds (now (text .entry)) at (fieldOf (now (s .entry))) r (now (text .exit)) ⌝ }
 {
     if s.len() == 0 {
-        return put_byte(b'-', text, at);
+        text[at] = b'-';
+        return at + 1;
     }
     put_hex(s, text, at)
 }
@@ -63,7 +55,8 @@ fn put_number(n: u64, text: &mut [u8], at: usize) -> usize
     ensures { λ r. ⌜ Adds (now (text .entry)) at (numberText n) r (now (text .exit)) ⌝ }
 {
     let end = put_decimal(n, text, at);
-    put_byte(b' ', text, end)
+    text[end] = b' ';
+    end + 1
 }
 
 pub fn answer_number(answer: Answer) -> u8
@@ -105,8 +98,8 @@ fn put_state(outcome: Outcome, text: &mut [u8], at: usize) -> usize
     ensures { λ r. ⌜ Adds (now (text .entry)) at (stateText outcome) r (now (text .exit)) ⌝ }
 {
     let end = put_outcome(outcome, text, at);
-    let next = put_byte(b' ', text, end);
-    put_number(status_of(outcome) as u64, text, next)
+    text[end] = b' ';
+    put_number(status_of(outcome) as u64, text, end + 1)
 }
 
 // Numbers with a comma before each.
@@ -118,8 +111,8 @@ fn put_more(numbers: &[u8], text: &mut [u8], at: usize) -> usize
     let mut i = 0;
     let mut end = at;
     while i < numbers.len() {
-        let next = put_byte(b',', text, end);
-        end = put_code(numbers[i], text, next);
+        text[end] = b',';
+        end = put_code(numbers[i], text, end + 1);
         i += 1;
     }
     end
@@ -132,7 +125,8 @@ fn put_numbers(numbers: &[u8], text: &mut [u8], at: usize) -> usize
     ensures { λ r. ⌜ Adds (now (text .entry)) at (numbersText (now (numbers .entry))) r (now (text .exit)) ⌝ }
 {
     if numbers.len() == 0 {
-        return put_byte(b'-', text, at);
+        text[at] = b'-';
+        return at + 1;
     }
     let end = put_code(numbers[0], text, at);
     put_more(&numbers[1..], text, end)
@@ -144,9 +138,10 @@ fn put_sent(sent: &[u8], text: &mut [u8], at: usize) -> usize
     ensures { λ r. ⌜ r ≤ at + 2 * length (now (sent .entry)) + 3 ⌝ }
     ensures { λ r. ⌜ Adds (now (text .entry)) at (sentText (now (sent .entry))) r (now (text .exit)) ⌝ }
 {
-    let first = put_byte(b' ', text, at);
-    let end = put_field(sent, text, first);
-    put_byte(b' ', text, end)
+    text[at] = b' ';
+    let end = put_field(sent, text, at + 1);
+    text[end] = b' ';
+    end + 1
 }
 
 // How the last session stands, how much was used, what the opening answered, and the end, if it was called.
@@ -178,7 +173,8 @@ fn put_end(ended: bool, answer: u8, text: &mut [u8], at: usize) -> usize
     ensures { λ r. ⌜ Adds (now (text .entry)) at (endText ended answer) r (now (text .exit)) ⌝ }
 {
     if !ended {
-        return put_byte(b'-', text, at);
+        text[at] = b'-';
+        return at + 1;
     }
     put_code(answer, text, at)
 }
@@ -190,9 +186,10 @@ pub fn put_answers(answers: &[u8], ended: bool, answer: u8, text: &mut [u8], at:
     ensures { λ r. ⌜ Adds (now (text .entry)) at (answersText (now (answers .entry)) ended answer) r (now (text .exit)) ⌝ }
 {
     let first = put_numbers(answers, text, at);
-    let next = put_byte(b' ', text, first);
-    let last = put_end(ended, answer, text, next);
-    put_byte(b'\n', text, last)
+    text[first] = b' ';
+    let last = put_end(ended, answer, text, first + 1);
+    text[last] = b'\n';
+    last + 1
 }
 
 // What is wrong with the case at an offset.
@@ -203,5 +200,6 @@ pub fn put_wrong(what: &[u8], offset: u64, text: &mut [u8], at: usize) -> usize
 {
     let end = put_bytes(what, text, at);
     let next = put_decimal(offset, text, end);
-    put_byte(b'\n', text, next)
+    text[next] = b'\n';
+    next + 1
 }

@@ -1,11 +1,12 @@
-use Rattle.numerals.proofs.Laws.{nothing, then}
-use Rattle.report.proofs.Added.{more-numbers}
+use Rattle.numerals.proofs.Laws.{nothing, one, then}
 use Rattle.numerals.specs.Added.{Adds}
 use Rattle.report.specs.Text.{moreText}
+use Rattle.report.proofs.Added.{more-numbers}
 use lib.Seq.{take-all}
-use lib.ListN.{length, take}
+use lib.ListN.{length, take, length-set}
 use mathlib.Core.Path.{_≡_, refl}
 use Prim.Native.Nat.{_+_, _*_, _-_, _≤_}
+use native.Mathlib.Omega.{arith}
 use borrow.Author.Needs.{needs}
 use Rattle.report.proofs.text.put_more.Statement.{statement}
 use Rattle.report.proofs.text.put_more.Tie as tie
@@ -20,14 +21,17 @@ loop-holds : tie.Need-loop-holds Inv-loop μ-loop
 unfolding moreText
 loop-holds c = (search needs, (search needs, (search needs, nothing _ _)))
 
-put-byte-requires : tie.Need-put-byte-requires Inv-loop μ-loop
-put-byte-requires c κs = search needs
+slice-write-text : tie.Need-slice-write-text Inv-loop μ-loop
+slice-write-text c = search needs
 
 shared-slice-read-put-code : tie.Need-shared-slice-read-put-code Inv-loop μ-loop
 shared-slice-read-put-code c = search needs
 
+add-put-code : tie.Need-add-put-code Inv-loop μ-loop
+add-put-code c = search needs
+
 put-code-requires : tie.Need-put-code-requires Inv-loop μ-loop
-put-code-requires c κs = search needs
+put-code-requires c κs = simp length-set (omega arith)
 
 add-i : tie.Need-add-i Inv-loop μ-loop
 add-i c = search needs
@@ -36,8 +40,10 @@ loop-less : tie.Need-loop-less Inv-loop μ-loop
 loop-less c = search needs
 
 loop-again : tie.Need-loop-again Inv-loop μ-loop
-loop-again c = let b = c .before .before .before .before .before .before .before .before .before .before in
-    (search needs, (search needs, (search needs, more-numbers (b .before .before .before .args .numbers .now) (b .loop .i) _ (b .loop .inv .1 .1 .1) (c .before .before .before .before .before .before .before .before .before .loop-test .taken) refl (then (c .before .before .before .before .before .before .before .put-byte .ensures .1) (c .before .before .put-code .ensures .1)))))
+loop-again c =
+    let b = c .before .before .before .before .before .before in
+    let e = length-set (b .loop .text) (b .loop .end) 0x2C in
+    (omega arith, (search needs, (search needs, more-numbers (c .before .before .before .before .before .before .before .before .before .args .numbers .now) (b .loop .i) _ (b .loop .inv .1 .1 .1) (c .before .before .before .before .before .loop-test .taken) refl (then (one _ _ _ (omega arith)) (c .before .before .put-code .ensures .1)))))
 
 same-length : tie.Need-same-length Inv-loop μ-loop
 same-length c = search needs
@@ -52,8 +58,9 @@ put-more-spec =
     Inv-loop
     μ-loop
     loop-holds
-    put-byte-requires
+    slice-write-text
     shared-slice-read-put-code
+    add-put-code
     put-code-requires
     add-i
     loop-less

@@ -1,4 +1,4 @@
-use Rattle.numerals.proofs.Laws.{then, few}
+use Rattle.numerals.proofs.Laws.{one, then, few}
 use native.Mathlib.Omega.{arith}
 use borrow.Author.Needs.{needs}
 use Rattle.report.proofs.text.put_number.Statement.{statement}
@@ -7,14 +7,20 @@ use Rattle.report.proofs.text.put_number.Tie as tie
 put-decimal-requires : tie.Need-put-decimal-requires
 put-decimal-requires c κs = omega (arith, few 19 (c .before .before .args .n) (omega arith))
 
-put-byte-requires : tie.Need-put-byte-requires
-put-byte-requires c κs = omega (arith, few 19 (c .before .before .before .before .before .before .args .n) (omega arith))
+slice-write-text : tie.Need-slice-write-text
+slice-write-text c = omega (arith, few 19 (c .before .before .before .before .before .args .n) (omega arith))
+
+add-result : tie.Need-add-result
+add-result c = omega (arith, few 19 (c .before .before .before .before .before .args .n) (omega arith))
 
 same-length : tie.Need-same-length
 same-length c = search needs
 
 returns : tie.Need-returns
-returns c = (omega (arith, few 19 (c .before .before .before .before .before .before .before .before .before .args .n) (omega arith)), then (c .before .before .before .before .before .before .put-decimal .ensures) (c .before .before .put-byte .ensures .1))
+returns c =
+    let f = few 19 (c .before .before .before .before .before .args .n) (omega arith) in
+    (omega arith, then (c .before .before .put-decimal .ensures) (one _ _ _ (omega arith)))
 
 pub put-number-spec : {M : Type 1} → statement M
-put-number-spec = tie.close (tie.spec put-decimal-requires put-byte-requires same-length returns)
+put-number-spec =
+    tie.close (tie.spec put-decimal-requires slice-write-text add-result same-length returns)

@@ -1,18 +1,21 @@
-use Rattle.numerals.proofs.Laws.{then}
+use Rattle.numerals.proofs.Laws.{one, then}
 use Rattle.report.proofs.Added.{no-numbers, some-numbers}
 use native.Mathlib.Omega.{arith}
 use borrow.Author.Needs.{needs}
 use Rattle.report.proofs.text.put_numbers.Statement.{statement}
 use Rattle.report.proofs.text.put_numbers.Tie as tie
 
-put-byte-requires : tie.Need-put-byte-requires
-put-byte-requires c κs = search needs
+slice-write-text : tie.Need-slice-write-text
+slice-write-text c = search needs
+
+add-result : tie.Need-add-result
+add-result c = search needs
 
 same-length : tie.Need-same-length
 same-length c = search needs
 
 returns : tie.Need-returns
-returns c = (search needs, rw (no-numbers (c .before .before .before .before .before .before .before .args .numbers .now) (c .before .before .before .before .if1 .taken)) (c .before .before .put-byte .ensures .1))
+returns c = (search needs, rw (no-numbers (c .before .before .before .args .numbers .now) (c .if1 .taken)) (one _ _ _ (search needs)))
 
 shared-slice-read-put-code : tie.Need-shared-slice-read-put-code
 shared-slice-read-put-code c = search needs
@@ -42,7 +45,8 @@ pub put-numbers-spec : {M : Type 1} → statement M
 put-numbers-spec =
     tie.close
     (tie.spec
-    put-byte-requires
+    slice-write-text
+    add-result
     same-length
     returns
     shared-slice-read-put-code
