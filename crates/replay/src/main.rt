@@ -2,7 +2,7 @@
 ghost use mathlib.Core.Path.{_≡_};
 ghost use Prim.Native.Nat.{_+_, _≤_};
 ghost use lib.ListN.{length};
-ghost use Rattle.cases.specs.Inputs.{Unread};
+ghost use Rattle.input.specs.Inputs.{Unread};
 ghost use Rattle.report.specs.Lines.{Within};
 ghost use Rattle.replay.specs.Bounds.{Keeps, Rooms};
 ghost use Rattle.cases.specs.Cases.{Ordered};
@@ -11,9 +11,8 @@ mod course;
 
 use cases::heads;
 use cases::heads::Head;
-use cases::input;
-use cases::input::Input;
 use course::Course;
+use input::Input;
 use libc::STDOUT_FILENO;
 use report::lines;
 use report::lines::Line;

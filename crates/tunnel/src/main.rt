@@ -11,10 +11,9 @@ use socks::Opened;
 use socks::Session;
 use socks::errors;
 ghost use mathlib.Core.Path.{_≡_};
-ghost use Prim.Native.Nat.{_+_, _*_, _%_, _^_, _≤_, _<_};
-ghost use lib.ListN.{length, take};
-ghost use Rattle.io.specs.Digits.{glyph};
-ghost use Rattle.tunnel.specs.Lines.{hexOf, outcomeNumbers};
+ghost use Prim.Native.Nat.{_+_, _%_, _^_, _≤_};
+ghost use lib.ListN.{length};
+ghost use Rattle.tunnel.specs.Lines.{outcomeNumbers};
 
 const PIECE: usize = 513;
 
@@ -23,37 +22,11 @@ const OUTPUT: usize = 1024;
 
 const TEXT: usize = 2048;
 
-// The ASCII code of a digit below 16.
-fn hex_digit(d: u8) -> u8
-    requires { ⌜ d < 16 ⌝ }
-    ensures { λ r. ⌜ r ≡ glyph d ⌝ }
-{
-    if d < 10 { 48 + d } else { 87 + d }
-}
-
-// Two digits for each byte, at the start of the text. It answers how many digits there are.
-fn put_hex(s: &[u8], text: &mut [u8]) -> usize
-    requires { ⌜ 2 * length (now s) ≤ length (now text) ⌝ }
-    ensures { λ r. ⌜ r ≡ 2 * length (now (s .entry)) ⌝ }
-    ensures { λ r. ⌜ take r (now (text .exit)) ≡ hexOf (now (s .entry)) ⌝ }
-{
-    let mut i = 0;
-    let mut end = 0;
-    while i < s.len() {
-        let b = s[i];
-        text[end] = hex_digit(b / 16);
-        text[end + 1] = hex_digit(b % 16);
-        end += 2;
-        i += 1;
-    }
-    end
-}
-
 fn print_hex(s: &[u8])
     requires { ⌜ length (now s) ≤ 1024 ⌝ }
 {
     let mut text = [0u8; TEXT];
-    let n = put_hex(s, &mut text);
+    let n = numerals::put_hex(s, &mut text, 0);
     io::write_all(STDOUT_FILENO, &text[..n]);
 }
 

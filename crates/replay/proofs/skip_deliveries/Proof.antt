@@ -1,5 +1,5 @@
 use borrow.Author.Needs.{needs}
-use Rattle.cases.specs.Inputs.{Unread}
+use Rattle.input.specs.Inputs.{Unread}
 use lib.ListN.{length}
 use mathlib.Core.Path.{_≡_}
 use Rattle.replay.proofs.skip_deliveries.Statement.{statement}

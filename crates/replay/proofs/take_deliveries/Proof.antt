@@ -2,7 +2,7 @@ use lib.ListN.{length-set, length}
 use native.Mathlib.Omega.{arith}
 use mathlib.Core.Path.{_∙_, _≡_}
 use borrow.Author.Needs.{needs}
-use Rattle.cases.specs.Inputs.{Unread}
+use Rattle.input.specs.Inputs.{Unread}
 use Rattle.replay.specs.Bounds.{Keeps}
 use Prim.Native.Nat.{_-_, _≤_}
 use Rattle.replay.proofs.take_deliveries.Statement.{statement}

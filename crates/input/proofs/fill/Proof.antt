@@ -1,10 +1,10 @@
-use Rattle.cases.proofs.Moved.{front-kept}
+use Rattle.input.proofs.Moved.{front-kept}
 use mathlib.Core.Path.{refl, _≡_}
 use lib.ListN.{take, length}
 use borrow.Author.Needs.{needs}
 use Prim.Native.Nat.{_-_, _≤_}
-use Rattle.cases.proofs.input.fill.Statement.{statement}
-use Rattle.cases.proofs.input.fill.Tie as tie
+use Rattle.input.proofs.fill.Statement.{statement}
+use Rattle.input.proofs.fill.Tie as tie
 
 abbrev Inv-loop : tie.InvT-loop
 Inv-loop buffer₀ held end₀ buffer end = (length buffer ≡ length buffer₀) × ((end ≤ length buffer) × ((held ≤ end) × (take held buffer ≡ take held buffer₀)))

@@ -1,7 +1,7 @@
 use mathlib.Core.Path.{refl, _∙_}
 use borrow.Author.Needs.{needs}
-use Rattle.cases.proofs.input.want.Statement.{statement}
-use Rattle.cases.proofs.input.want.Tie as tie
+use Rattle.input.proofs.want.Statement.{statement}
+use Rattle.input.proofs.want.Tie as tie
 
 sub-if2 : tie.Need-sub-if2
 sub-if2 c = search needs

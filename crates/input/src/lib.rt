@@ -1,8 +1,8 @@
 // Standard input through a buffer. What is unread of it stands between two places of the buffer.
 ghost use mathlib.Core.Path.{_≡_};
-ghost use Prim.Native.Nat.{_+_, _-_, _%_, _^_, _≤_};
+ghost use Prim.Native.Nat.{_+_, _-_, _%_, _^_, _≤_, _<_};
 ghost use lib.ListN.{length, take, drop};
-ghost use Rattle.cases.specs.Inputs.{Unread, Still};
+ghost use Rattle.input.specs.Inputs.{Unread, Still};
 use libc::STDIN_FILENO;
 
 // offset: the first unread byte's, in the whole input. ended: there is nothing behind what the buffer holds.
@@ -97,4 +97,15 @@ pub fn want(input: Input, buffer: &mut [u8], n: usize) -> Input
         offset: input.offset,
         ended: stop < buffer.len(),
     }
+}
+
+// How many turns a loop that reads has left: none where there is nothing more to read.
+pub fn turns_left(turns: u64, more: bool) -> u64
+    requires { ⌜ 0 < turns ⌝ }
+    ensures { λ r. ⌜ r < turns ⌝ }
+{
+    if !more {
+        return 0;
+    }
+    turns - 1
 }

@@ -2,9 +2,9 @@ use borrow.Author.Needs.{needs}
 use native.Mathlib.Omega.{arith}
 use mathlib.Core.Path.{_≡_}
 use Prim.Native.Nat.{_+_, _≤_, _-_}
-use Rattle.cases.proofs.Moved.{Moved, moved-none, moved-more}
-use Rattle.cases.proofs.input.keep.Statement.{statement}
-use Rattle.cases.proofs.input.keep.Tie as tie
+use Rattle.input.proofs.Moved.{Moved, moved-none, moved-more}
+use Rattle.input.proofs.keep.Statement.{statement}
+use Rattle.input.proofs.keep.Tie as tie
 
 abbrev Inv-loop : tie.InvT-loop
 Inv-loop buffer₀ from n i₀ at₀ buffer i at = (at ≡ from + i) × ((at ≤ n) × Moved buffer₀ from i buffer)

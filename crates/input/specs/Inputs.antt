@@ -3,7 +3,7 @@ use Prim.Native.Nat.{ℕ, _-_, _≤_}
 use mathlib.Core.Path.{_≡_}
 use mathlib.Core.List.{List}
 use lib.ListN.{take, drop}
-use Rattle.cases.specs.declared.input.Input.{Input}
+use Rattle.input.specs.declared.Input.{Input}
 
 -- the unread bytes, within the buffer
 pub record Unread (input : Input) (buffer : ℕ) : Type 0 where
