@@ -6,10 +6,10 @@ ghost use mathlib.Core.List.{[]};
 ghost use lib.Dec.{ltb};
 ghost use lib.ListN.{length, take};
 ghost use Rattle.report.specs.Lines.{Within};
-ghost use Rattle.replay.specs.Bounds.{Keeps};
+ghost use Rattle.course.specs.Bounds.{Keeps};
 ghost use Rattle.cases.specs.Cases.{Ordered, restOf, deliverySize};
-ghost use Rattle.replay.specs.Last.{lastOf};
-ghost use Rattle.report.specs.Text.{Adds};
+ghost use Rattle.course.specs.Last.{lastOf};
+ghost use Rattle.numerals.specs.Added.{Adds};
 use cases::heads;
 use cases::heads::Head;
 use report::lines;
@@ -27,6 +27,9 @@ pub struct Course {
     pub sent: usize,
     pub line: Line,
 }
+
+// What is kept of a case: first the bytes sent, of which a session sends fewer in all its calls, then a byte for each delivery's answer.
+pub const SENT: usize = 8192;
 
 fn output() -> [u8; 2048]
     ensures { λ r. ⌜ 2048 ≡ length r ⌝ }
@@ -70,22 +73,22 @@ fn begin(s: &[u8], head: Head, out: &mut [u8]) -> Opened
     )
 }
 
-// The first n bytes of an output behind those that are kept of what was sent. All calls of a session together send less than the room there is.
-fn keep_sent(out: &[u8], n: usize, sent: &mut [u8], at: usize) -> usize
-    requires { ⌜ (n ≤ length (now out)) × (at ≤ length (now sent)) ⌝ }
-    ensures { λ r. ⌜ r ≤ length (now (sent .entry)) ⌝ }
-    ensures { λ r. ⌜ Adds (now (sent .entry)) at (cond (ltb (length (now (sent .entry)) - at) n) [] (take n (now (out .entry)))) r (now (sent .exit)) ⌝ }
+// The first n bytes of an output behind those that are kept of what was sent, if there is room.
+fn keep_sent(out: &[u8], n: usize, kept: &mut [u8], at: usize) -> usize
+    requires { ⌜ (n ≤ length (now out)) × ((at ≤ 8192) × (8192 ≤ length (now kept))) ⌝ }
+    ensures { λ r. ⌜ r ≤ 8192 ⌝ }
+    ensures { λ r. ⌜ Adds (now (kept .entry)) at (cond (ltb (8192 - at) n) [] (take n (now (out .entry)))) r (now (kept .exit)) ⌝ }
 {
-    if sent.len() - at < n {
+    if SENT - at < n {
         return at;
     }
-    text::put_bytes(&out[..n], sent, at)
+    text::put_bytes(&out[..n], kept, at)
 }
 
 // The opening of a case with all of an output.
-fn open(s: &[u8], head: Head, line: Line, out: &mut [u8], sent: &mut [u8]) -> Course
-    requires { ⌜ (Ordered head) × ((head .count ≤ 8) × (head .size ≤ length (now s))) ⌝ }
-    ensures { λ r. ⌜ (r .line ≡ line) × (r .sent ≤ length (now (sent .entry))) ⌝ }
+fn open(s: &[u8], head: Head, line: Line, out: &mut [u8], kept: &mut [u8]) -> Course
+    requires { ⌜ (Ordered head) × ((head .count ≤ 8) × ((head .size ≤ length (now s)) × (8192 ≤ length (now kept)))) ⌝ }
+    ensures { λ r. ⌜ (r .line ≡ line) × (r .sent ≤ 8192) ⌝ }
 {
     let opened = begin(s, head, out);
     let answer = opened.answer;
@@ -94,19 +97,19 @@ fn open(s: &[u8], head: Head, line: Line, out: &mut [u8], sent: &mut [u8]) -> Co
         session,
         answer: text::answer_number(answer),
         used: 0,
-        sent: keep_sent(out, opened.sent, sent, 0),
+        sent: keep_sent(out, opened.sent, kept, 0),
         line,
     }
 }
 
 // The opening of a case, whose output is lent as far as the case says.
-pub fn start(s: &[u8], head: Head, line: Line, sent: &mut [u8]) -> Course
-    requires { ⌜ (Ordered head) × ((head .count ≤ 8) × (head .size ≤ length (now s))) ⌝ }
-    ensures { λ r. ⌜ (r .line ≡ line) × (r .sent ≤ length (now (sent .entry))) ⌝ }
+pub fn start(s: &[u8], head: Head, line: Line, kept: &mut [u8]) -> Course
+    requires { ⌜ (Ordered head) × ((head .count ≤ 8) × ((head .size ≤ length (now s)) × (8192 ≤ length (now kept)))) ⌝ }
+    ensures { λ r. ⌜ (r .line ≡ line) × (r .sent ≤ 8192) ⌝ }
 {
     let mut out = output();
     let n = heads::lent(heads::number_at(s, 4));
-    open(s, head, line, &mut out[..n], sent)
+    open(s, head, line, &mut out[..n], kept)
 }
 
 // What a delivery leaves of its piece. If it is lent less output than a delivery asks, that is nothing.
@@ -120,9 +123,9 @@ fn rest_of(piece: &[u8], lent: usize, used: usize) -> &[u8]
 }
 
 // A piece is delivered with all of an output.
-fn deliver(course: Course, piece: &[u8], out: &mut [u8], sent: &mut [u8], text: &mut [u8]) -> Course
-    requires { ⌜ (Keeps course (length (now sent)) (length (now text))) × ((length (now piece) ≤ 65535) × (131072 ≤ length (now text))) ⌝ }
-    ensures { λ r. ⌜ Keeps r (length (now (sent .entry))) (length (now (text .entry))) ⌝ }
+fn deliver(course: Course, piece: &[u8], out: &mut [u8], kept: &mut [u8], text: &mut [u8]) -> Course
+    requires { ⌜ (Keeps course (length (now text))) × ((length (now piece) ≤ 65535) × ((8192 ≤ length (now kept)) × (131072 ≤ length (now text)))) ⌝ }
+    ensures { λ r. ⌜ Keeps r (length (now (text .entry))) ⌝ }
 {
     let before = course.session;
     let line = course.line;
@@ -134,21 +137,21 @@ fn deliver(course: Course, piece: &[u8], out: &mut [u8], sent: &mut [u8], text: 
         session,
         answer: text::answer_number(answer),
         used: std::num::wrapping_add_u64(course.used, used as u64),
-        sent: keep_sent(out, delivered.sent, sent, course.sent),
+        sent: keep_sent(out, delivered.sent, kept, course.sent),
         line: lines::put_rest(line, rest_of(piece, out.len(), used), text),
     }
 }
 
 // The delivery that a case has at a place.
-pub fn take_delivery(course: Course, s: &[u8], sent: &mut [u8], text: &mut [u8]) -> Course
-    requires { ⌜ (Keeps course (length (now sent)) (length (now text))) × ((deliverySize (now s) ≤ length (now s)) × (131072 ≤ length (now text))) ⌝ }
-    ensures { λ r. ⌜ Keeps r (length (now (sent .entry))) (length (now (text .entry))) ⌝ }
+pub fn take_delivery(course: Course, s: &[u8], kept: &mut [u8], text: &mut [u8]) -> Course
+    requires { ⌜ (Keeps course (length (now text))) × ((deliverySize (now s) ≤ length (now s)) × ((8192 ≤ length (now kept)) × (131072 ≤ length (now text)))) ⌝ }
+    ensures { λ r. ⌜ Keeps r (length (now (text .entry))) ⌝ }
 {
     let mut out = output();
     let n = heads::lent(heads::number_at(s, 0));
     let from = 4;
     let to = heads::delivery_size(s);
-    deliver(course, &s[from..to], &mut out[..n], sent, text)
+    deliver(course, &s[from..to], &mut out[..n], kept, text)
 }
 
 // The last session and, if the stream ends, what that call answers.
@@ -178,16 +181,16 @@ fn last_of(session: Session, ends: bool) -> Last
     }
 }
 
-// A whole case's line.
+// The line of a whole case of so many deliveries.
 pub fn finish(
     course: Course,
     opened: u8,
     ends: bool,
-    answers: &[u8],
-    sent: &[u8],
+    count: usize,
+    kept: &[u8],
     text: &mut [u8],
 ) -> usize
-    requires { ⌜ (Within (course .line) (length (now text))) × ((length (now answers) ≤ 65535) × ((length (now sent) ≤ 8192) × (300000 ≤ length (now text)))) ⌝ }
+    requires { ⌜ (Keeps course (length (now text))) × ((count ≤ 65535) × ((73727 ≤ length (now kept)) × (300000 ≤ length (now text)))) ⌝ }
     ensures { λ r. ⌜ r ≤ length (now (text .entry)) ⌝ }
 {
     let session = course.session;
@@ -202,5 +205,8 @@ pub fn finish(
         ended: last.ended,
         answer: last.answer,
     };
-    lines::put_line(line, results, answers, sent, text)
+    let sent = course.sent;
+    let first = SENT;
+    let stop = SENT + count;
+    lines::put_line(line, results, &kept[first..stop], &kept[..sent], text)
 }

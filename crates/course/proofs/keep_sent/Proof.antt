@@ -1,11 +1,11 @@
-use Rattle.report.proofs.Added.{nothing}
+use Rattle.numerals.proofs.Laws.{nothing}
 use borrow.Author.Tests.{lt-ltb, le-ltb}
 use lib.Seq.{length-take-le}
 use mathlib.Core.Path.{sym}
 use native.Mathlib.Omega.{arith}
 use borrow.Author.Needs.{needs}
-use Rattle.replay.proofs.course.keep_sent.Statement.{statement}
-use Rattle.replay.proofs.course.keep_sent.Tie as tie
+use Rattle.course.proofs.keep_sent.Statement.{statement}
+use Rattle.course.proofs.keep_sent.Tie as tie
 
 sub-if1 : tie.Need-sub-if1
 sub-if1 c = search needs

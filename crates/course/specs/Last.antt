@@ -2,7 +2,7 @@
 use mathlib.Core.Bool.{Bool, true, false, cond}
 use Rattle.session.specs.declared.Session.{Session}
 use Rattle.session.specs.Calls.{end}
-use Rattle.replay.specs.declared.course.Last.{Last}
+use Rattle.course.specs.declared.Last.{Last}
 use Rattle.report.specs.Text.{answerNumber}
 
 -- end of stream is a call of its own, if it comes at all

@@ -5,8 +5,8 @@ use mathlib.Core.Path.{subst⁻¹}
 use Rattle.cases.proofs.Records.{rest-short}
 use lib.ListN.{length}
 use borrow.Author.Needs.{needs}
-use Rattle.replay.proofs.course.deliver.Statement.{statement}
-use Rattle.replay.proofs.course.deliver.Tie as tie
+use Rattle.course.proofs.deliver.Statement.{statement}
+use Rattle.course.proofs.deliver.Tie as tie
 
 deliver-requires : tie.Need-deliver-requires
 deliver-requires c κs = search needs
@@ -26,7 +26,7 @@ rest-of-requires c κs = search needs
 put-rest-requires : tie.Need-put-rest-requires
 put-rest-requires c κs = let p = c .before .before .before .before .before .before .before .before .before .before .before .before .before .before .before .before .before .before .before .before .pre in
     let d = c .before .before .before .before .before .before .before .before .before .before .before .before .deliver in
-    (search needs, (subst⁻¹ (λ (l : List ℕ). length l ≤ 65535) (c .before .rest-of .ensures) (le-trans (rest-short (length (d .last .1 .1 .0)) (c .before .before .before .before .before .before .before .before .before .before .before .before .before .before .before .before .before .before .before .before .args .piece .now) (d .result .used)) (p .1 .0)), p .1 .1))
+    (search needs, (subst⁻¹ (λ (l : List ℕ). length l ≤ 65535) (c .before .rest-of .ensures) (le-trans (rest-short (length (d .last .1 .1 .0)) (c .before .before .before .before .before .before .before .before .before .before .before .before .before .before .before .before .before .before .before .before .args .piece .now) (d .result .used)) (p .1 .0)), p .1 .1 .1))
 
 same-length : tie.Need-same-length
 same-length c = search needs

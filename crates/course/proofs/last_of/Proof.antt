@@ -1,7 +1,7 @@
 use borrow.Author.Tests.{not-true, not-false}
 use borrow.Author.Needs.{needs}
-use Rattle.replay.proofs.course.last_of.Statement.{statement}
-use Rattle.replay.proofs.course.last_of.Tie as tie
+use Rattle.course.proofs.last_of.Statement.{statement}
+use Rattle.course.proofs.last_of.Tie as tie
 
 returns : tie.Need-returns
 returns c = rw (not-true (c .before .args .ends) (c .if1 .taken))
