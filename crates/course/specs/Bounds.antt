@@ -1,7 +1,7 @@
 -- What the functions of a course say to each other: places within buffers of given lengths.
 use Prim.Native.Nat.{ℕ, _≤_}
 use Rattle.course.specs.declared.Course.{Course}
-use Rattle.report.specs.Lines.{Within}
+use Rattle.lines.specs.Lines.{Within}
 
 -- what a course keeps, within the bytes sent and the text
 pub record Keeps (course : Course) (text : ℕ) : Type 0 where

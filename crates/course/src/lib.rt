@@ -5,17 +5,14 @@ ghost use mathlib.Core.Bool.{cond};
 ghost use mathlib.Core.List.{[]};
 ghost use lib.Dec.{ltb};
 ghost use lib.ListN.{length, take};
-ghost use Rattle.report.specs.Lines.{Within};
 ghost use Rattle.course.specs.Bounds.{Keeps};
 ghost use Rattle.cases.specs.Cases.{Ordered, restOf, deliverySize};
 ghost use Rattle.course.specs.Last.{lastOf};
 ghost use Rattle.numerals.specs.Added.{Adds};
 use cases::heads;
 use cases::heads::Head;
-use report::lines;
-use report::lines::Line;
-use report::text;
-use report::text::Results;
+use lines::Line;
+use report::Results;
 use socks::Opened;
 use socks::Session;
 
@@ -82,7 +79,7 @@ fn keep_sent(out: &[u8], n: usize, kept: &mut [u8], at: usize) -> usize
     if SENT - at < n {
         return at;
     }
-    text::put_bytes(&out[..n], kept, at)
+    report::put_bytes(&out[..n], kept, at)
 }
 
 // The opening of a case with all of an output.
@@ -95,7 +92,7 @@ fn open(s: &[u8], head: Head, line: Line, out: &mut [u8], kept: &mut [u8]) -> Co
     let session = opened.session;
     Course {
         session,
-        answer: text::answer_number(answer),
+        answer: report::answer_number(answer),
         used: 0,
         sent: keep_sent(out, opened.sent, kept, 0),
         line,
@@ -135,7 +132,7 @@ fn deliver(course: Course, piece: &[u8], out: &mut [u8], kept: &mut [u8], text: 
     let used = delivered.used;
     Course {
         session,
-        answer: text::answer_number(answer),
+        answer: report::answer_number(answer),
         used: std::num::wrapping_add_u64(course.used, used as u64),
         sent: keep_sent(out, delivered.sent, kept, course.sent),
         line: lines::put_rest(line, rest_of(piece, out.len(), used), text),
@@ -177,7 +174,7 @@ fn last_of(session: Session, ends: bool) -> Last
     Last {
         session: last,
         ended: true,
-        answer: text::answer_number(answer),
+        answer: report::answer_number(answer),
     }
 }
 

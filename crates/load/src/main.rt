@@ -1,10 +1,11 @@
 // Runs the handshakes of a stated load, and says how many opened and what they sent: `load COUNT SEED [bytes]`, with `bytes` in pieces of one byte.
 ghost use mathlib.Core.Path.{_≡_};
+ghost use mathlib.Core.Bool.{true};
 ghost use Prim.Native.Nat.{_*_, _≤_};
 ghost use lib.ListN.{length, take};
 ghost use Rattle.load.specs.Tally.{sumOf, added, isOpen, settled};
 ghost use Rattle.session.specs.Session.{outcome};
-ghost use Rattle.load.specs.Arguments.{isDigit, noNumber, digitsFrom, numberOf, isBytes};
+ghost use Rattle.load.specs.Arguments.{isDigit, noNumber, digitsFrom, numberOf, bytesWord};
 
 mod draws;
 
@@ -283,13 +284,9 @@ fn argument(i: usize) -> Number {
 }
 
 fn is_bytes(text: &[u8]) -> bool
-    ensures { λ r. ⌜ r ≡ isBytes (now (text .entry)) ⌝ }
+    ensures { λ r. ⌜ (r ≡ true → now (text .entry) ≡ bytesWord) × (now (text .entry) ≡ bytesWord → r ≡ true) ⌝ }
 {
-    if text.len() != 5 {
-        return false;
-    }
-    text[0] == b'b'
-        && (text[1] == b'y' && (text[2] == b't' && (text[3] == b'e' && text[4] == b's')))
+    check::same(text, b"bytes")
 }
 
 // Whether the third argument is `bytes`.

@@ -4,7 +4,7 @@ ghost use mathlib.Core.Bool.{true};
 ghost use Prim.Native.Nat.{_+_, _≤_};
 ghost use lib.ListN.{length};
 ghost use Rattle.input.specs.Inputs.{Unread};
-ghost use Rattle.report.specs.Lines.{Within};
+ghost use Rattle.lines.specs.Lines.{Within};
 ghost use Rattle.course.specs.Bounds.{Keeps, Rooms};
 ghost use Rattle.cases.specs.Cases.{Ordered};
 ghost use Rattle.replay.specs.Deliveries.{Next};
@@ -14,8 +14,7 @@ use course::Course;
 use course::SENT;
 use input::Input;
 use libc::STDOUT_FILENO;
-use report::lines;
-use report::lines::Line;
+use lines::Line;
 
 // More than all that stands before the deliveries of a case: three texts of 65,535 bytes and 255 records.
 const OPENING: usize = 201000;

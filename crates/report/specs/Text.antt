@@ -10,7 +10,7 @@ use Rattle.protocol.specs.declared.Answer.{Answer}
 use Rattle.protocol.specs.declared.Answer.the-variants.{Accepted, Refused}
 use Rattle.protocol.specs.declared.Outcome.{Outcome}
 use Rattle.protocol.specs.declared.Outcome.the-variants.{Waiting, Open, Failed}
-use Rattle.report.specs.declared.text.Results.{Results}
+use Rattle.report.specs.declared.Results.{Results}
 
 abbrev pub space : List ℕ
 space = 0x20 ∷ []

@@ -181,16 +181,17 @@ fn finish(session: Session) -> Outcome {
     last.outcome()
 }
 
+fn print(name: &[u8], value: u64) {
+    io::write_all(STDOUT_FILENO, name);
+    io::print_decimal(STDOUT_FILENO, value);
+}
+
 fn print_end(course: Course) {
     let numbers = numbers_of(finish(course.session));
-    io::write_all(STDOUT_FILENO, b"\nend ");
-    io::print_decimal(STDOUT_FILENO, numbers.number as u64);
-    io::write_all(STDOUT_FILENO, b" ");
-    io::print_decimal(STDOUT_FILENO, numbers.status as u64);
-    io::write_all(STDOUT_FILENO, b" used ");
-    io::print_decimal(STDOUT_FILENO, course.used);
-    io::write_all(STDOUT_FILENO, b"\nrest ");
-    io::print_decimal(STDOUT_FILENO, course.rest);
+    print(b"\nend ", numbers.number as u64);
+    print(b" ", numbers.status as u64);
+    print(b" used ", course.used);
+    print(b"\nrest ", course.rest);
     io::write_all(STDOUT_FILENO, b"\n");
 }
 
