@@ -5,12 +5,12 @@ ghost use mathlib.Core.Bool.{_&&_, not};
 ghost use lib.Dec.{eqb};
 ghost use lib.ListN.{length};
 ghost use Rattle.lines.specs.Lines.{Within};
+use libc::STDOUT_FILENO;
+use numerals::put_hex;
 use report::Results;
 use report::put_answers;
 use report::put_results;
 use report::put_wrong;
-use libc::STDOUT_FILENO;
-use numerals::put_hex;
 
 // A line from its start to its end in the text. begun: some of it was written out already.
 pub struct Line {

@@ -6,6 +6,8 @@ ghost use lib.ListN.{length};
 ghost use Rattle.numerals.specs.Digits.{glyph, hexOf, decimalOf};
 ghost use Rattle.numerals.specs.Added.{Adds};
 
+pub mod read;
+
 // The ASCII code of a digit below 16.
 pub fn hex_digit(d: u8) -> u8
     requires { ⌜ d < 16 ⌝ }

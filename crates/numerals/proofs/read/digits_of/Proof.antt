@@ -1,6 +1,6 @@
 use borrow.Author.Needs.{needs}
-use Rattle.load.proofs.Laws.{digit-range, digit-more, no-digit}
-use Rattle.load.specs.Arguments.{isDigit, digitsFrom}
+use Rattle.numerals.proofs.Reading.{digit-range, digit-more, no-digit}
+use Rattle.numerals.specs.Read.{isDigit, digitsFrom}
 use borrow.Author.Tests.{not-true, not-false}
 use mathlib.Core.Bool.{true}
 use lib.Seq.{drop-length}
@@ -10,8 +10,8 @@ use native.Mathlib.Nat.{pow-le-pow-right}
 use native.Mathlib.Omega.{arith}
 use mathlib.Core.Path.{_≡_, refl, sym, _∙_}
 use Prim.Native.Nat.{_-_, _^_, _≤_, _<_}
-use Rattle.load.proofs.digits_of.Statement.{statement}
-use Rattle.load.proofs.digits_of.Tie as tie
+use Rattle.numerals.proofs.read.digits_of.Statement.{statement}
+use Rattle.numerals.proofs.read.digits_of.Tie as tie
 
 abbrev Inv-loop : tie.InvT-loop
 Inv-loop text value₀ i₀ value i = (i ≤ length text) × ((value < 10 ^ i) × (digitsFrom value (drop i text) ≡ digitsFrom 0 text))

@@ -1,7 +1,7 @@
 // The load: what is drawn for a handshake, and how its replies are cut into pieces.
 ghost use mathlib.Core.Path.{_≡_};
 ghost use Prim.Native.Nat.{_≤_, _<_};
-ghost use Rattle.load.specs.Draws.{drawOf, choiceOf, pieceOf};
+ghost use Rattle.draws.specs.Draws.{drawOf, choiceOf, pieceOf};
 
 // The next state and its top 16 bits.
 pub struct Drawn {

@@ -1,8 +1,8 @@
-use Rattle.load.specs.Arguments.{numberOf}
+use Rattle.numerals.specs.Read.{numberOf}
 use borrow.Author.Tests.{eq-eqb, ne-eqb, lt-ltb, le-ltb}
 use borrow.Author.Needs.{needs}
-use Rattle.load.proofs.number_of.Statement.{statement}
-use Rattle.load.proofs.number_of.Tie as tie
+use Rattle.numerals.proofs.read.number_of.Statement.{statement}
+use Rattle.numerals.proofs.read.number_of.Tie as tie
 
 no-number-requires : tie.Need-no-number-requires
 no-number-requires c κs = search needs

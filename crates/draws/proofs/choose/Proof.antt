@@ -1,7 +1,7 @@
-use Rattle.load.proofs.Laws.{chosen}
+use Rattle.draws.proofs.Laws.{chosen}
 use borrow.Author.Needs.{needs}
-use Rattle.load.proofs.draws.choose.Statement.{statement}
-use Rattle.load.proofs.draws.choose.Tie as tie
+use Rattle.draws.proofs.choose.Statement.{statement}
+use Rattle.draws.proofs.choose.Tie as tie
 
 draw-requires : tie.Need-draw-requires
 draw-requires c κs = search needs

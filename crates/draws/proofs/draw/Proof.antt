@@ -1,8 +1,8 @@
-use Rattle.load.specs.Draws.{drawOf}
+use Rattle.draws.specs.Draws.{drawOf}
 use mathlib.Core.Path.{refl}
 use borrow.Author.Needs.{needs}
-use Rattle.load.proofs.draws.draw.Statement.{statement}
-use Rattle.load.proofs.draws.draw.Tie as tie
+use Rattle.draws.proofs.draw.Statement.{statement}
+use Rattle.draws.proofs.draw.Tie as tie
 
 mul-next : tie.Need-mul-next
 mul-next c = search needs

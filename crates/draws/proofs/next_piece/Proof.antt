@@ -1,8 +1,8 @@
-use Rattle.load.proofs.Laws.{last-piece, long-piece}
-use Rattle.load.specs.Draws.{pieceOf}
+use Rattle.draws.proofs.Laws.{last-piece, long-piece}
+use Rattle.draws.specs.Draws.{pieceOf}
 use borrow.Author.Needs.{needs}
-use Rattle.load.proofs.draws.next_piece.Statement.{statement}
-use Rattle.load.proofs.draws.next_piece.Tie as tie
+use Rattle.draws.proofs.next_piece.Statement.{statement}
+use Rattle.draws.proofs.next_piece.Tie as tie
 
 returns : tie.Need-returns
 unfolding pieceOf

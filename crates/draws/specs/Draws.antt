@@ -2,9 +2,9 @@
 use Prim.Native.Nat.{ℕ, _+_, _*_, _/_, _%_, _^_, min}
 use mathlib.Core.Bool.{Bool, cond}
 use lib.Dec.{eqb}
-use Rattle.load.specs.declared.draws.Drawn.{Drawn}
-use Rattle.load.specs.declared.draws.Choice.{Choice}
-use Rattle.load.specs.declared.draws.Piece.{Piece}
+use Rattle.draws.specs.declared.Drawn.{Drawn}
+use Rattle.draws.specs.declared.Choice.{Choice}
+use Rattle.draws.specs.declared.Piece.{Piece}
 
 abbrev pub nextState : ℕ → ℕ
 nextState s = (s * 1664525 + 1013904223) % 2 ^ 32
