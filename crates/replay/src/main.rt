@@ -151,7 +151,7 @@ fn count_of(s: &[u8], head: Head) -> usize
 
 // A case of more records than a list holds.
 fn skip_case(input: Input, head: Head, line: Line, buffer: &mut [u8], text: &mut [u8]) -> Stand
-    requires { ⌜ (Unread input (length (now buffer))) × ((Ordered head) × ((head .size + input .at ≤ input .end) × ((Within line (length (now text))) × (64 ≤ length (now text))))) ⌝ }
+    requires { ⌜ (Unread input (length (now buffer))) × ((Ordered head) × ((input .at + head .size ≤ input .end) × ((Within line (length (now text))) × (64 ≤ length (now text))))) ⌝ }
     ensures { λ r. ⌜ (Unread (r .input) (length (now (buffer .entry)))) × (r .end ≤ length (now (text .entry))) ⌝ }
 {
     let at = input.at;
@@ -220,7 +220,7 @@ fn run_case(
     kept: &mut [u8],
     text: &mut [u8],
 ) -> Stand
-    requires { ⌜ (Unread input (length (now buffer))) × ((Ordered head) × ((head .count ≤ 8) × ((head .size + input .at ≤ input .end) × ((Within line (length (now text))) × (Rooms (length (now kept)) (length (now text))))))) ⌝ }
+    requires { ⌜ (Unread input (length (now buffer))) × ((Ordered head) × ((head .count ≤ 8) × ((input .at + head .size ≤ input .end) × ((Within line (length (now text))) × (Rooms (length (now kept)) (length (now text))))))) ⌝ }
     ensures { λ r. ⌜ (Unread (r .input) (length (now (buffer .entry)))) × (r .end ≤ length (now (text .entry))) ⌝ }
 {
     let at = input.at;

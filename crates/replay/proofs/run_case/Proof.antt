@@ -1,4 +1,5 @@
-use Rattle.replay.proofs.Laws.{unread-past, keeps-as, rooms-as, le-as}
+use Rattle.input.proofs.Laws.{unread-past}
+use Rattle.replay.proofs.Laws.{keeps-as, rooms-as, le-as}
 use mathlib.Core.Path.{refl, _∙_}
 use borrow.Author.Needs.{needs}
 use Rattle.replay.proofs.run_case.Statement.{statement}
@@ -25,7 +26,7 @@ take-deliveries-requires c κs =
     let p = b .pre in
     let o = c .before .before .before .before .before .before .before .«open» in
     let q = c .before .before .before .past in
-    (unread-past (b .args .input) (q .result) (b .args .head .size) (p .0) (q .ensures .0) (q .ensures .1 .0) (search needs), (record { kept = o .ensures .1 .0; line = rw (o .ensures .0) (p .1 .1 .1 .1 .0) }, (o .ensures .1 .1, rooms-as (p .1 .1 .1 .1 .1) (o .kept .1 .1 .1 .0) refl)))
+    (unread-past (b .args .input) (q .result) (b .args .head .size) (p .0) (q .ensures .0) (q .ensures .1 .0) (p .1 .1 .1 .0), (record { kept = o .ensures .1 .0; line = rw (o .ensures .0) (p .1 .1 .1 .1 .0) }, (o .ensures .1 .1, rooms-as (p .1 .1 .1 .1 .1) (o .kept .1 .1 .1 .0) refl)))
 
 close-requires : tie.Need-close-requires
 close-requires c κs =

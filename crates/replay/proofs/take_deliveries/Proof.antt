@@ -4,7 +4,8 @@ use lib.ListN.{length, length-set}
 use mathlib.Core.Path.{_≡_, _∙_}
 use Rattle.input.specs.Inputs.{Unread}
 use Rattle.course.specs.Bounds.{Keeps}
-use Rattle.replay.proofs.Laws.{keeps-as, sent-room, rest-room, answer-room, unread-past, one-more}
+use Rattle.input.proofs.Laws.{unread-past}
+use Rattle.replay.proofs.Laws.{keeps-as, sent-room, rest-room, answer-room, one-more}
 use borrow.Author.Needs.{needs}
 use Rattle.replay.proofs.take_deliveries.Statement.{statement}
 use Rattle.replay.proofs.take_deliveries.Tie as tie

@@ -1,4 +1,5 @@
-use Rattle.replay.proofs.Laws.{unread-as, notice-room, head-fits}
+use Rattle.input.proofs.Laws.{unread-as, part-fits}
+use Rattle.replay.proofs.Laws.{notice-room}
 use mathlib.Core.Path.{sym, _∙_}
 use borrow.Author.Tests.{not-false}
 use borrow.Author.Needs.{needs}
@@ -45,7 +46,7 @@ skip-case-requires : tie.Need-skip-case-requires
 skip-case-requires c κs =
     let w = c .before .before .before .before .before .before .before .before .before .before .before .before .before .before .before .want in
     let k = c .before .before .before .before .before .before .before .look in
-    let f = head-fits _ (w .result .at) (w .result .end) (k .result .head .size) (w .ensures .0 .order) (k .ensures .1 (not-false (k .result .good) (c .before .before .before .before .if2 .left))) in
+    let f = part-fits _ (w .result .at) (w .result .end) (k .result .head .size) (w .ensures .0 .order) (k .ensures .1 (not-false (k .result .good) (c .before .before .before .before .if2 .left))) in
     (unread-as (w .ensures .0) (w .kept .1 .0), (k .ensures .0, (f, (c .before .before .before .before .before .before .before .before .before .before .new-line .ensures, notice-room (c .before .before .before .before .before .before .before .before .before .before .before .before .before .before .before .before .before .before .before .before .pre .1 .1 .long)))))
 
 same-length-4 : tie.Need-same-length-4
@@ -63,7 +64,7 @@ run-case-requires : tie.Need-run-case-requires
 run-case-requires c κs =
     let w = c .before .before .before .before .before .before .before .before .before .before .before .before .before .before .before .before .want in
     let k = c .before .before .before .before .before .before .before .before .look in
-    let f = head-fits _ (w .result .at) (w .result .end) (k .result .head .size) (w .ensures .0 .order) (k .ensures .1 (not-false (k .result .good) (c .before .before .before .before .before .if2 .left))) in
+    let f = part-fits _ (w .result .at) (w .result .end) (k .result .head .size) (w .ensures .0 .order) (k .ensures .1 (not-false (k .result .good) (c .before .before .before .before .before .if2 .left))) in
     (unread-as (w .ensures .0) (w .kept .1 .0), (k .ensures .0, (c .before .before .before .if3 .left, (f, (c .before .before .before .before .before .before .before .before .before .before .before .new-line .ensures, c .before .before .before .before .before .before .before .before .before .before .before .before .before .before .before .before .before .before .before .before .before .pre .1 .1)))))
 
 same-length-6 : tie.Need-same-length-6
