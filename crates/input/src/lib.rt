@@ -38,7 +38,7 @@ pub fn past(input: Input, n: usize) -> Input
 }
 
 // Reads a piece, and says how many bytes it has: none at the input's end.
-fn read_piece(piece: &mut [u8]) -> usize
+pub fn read_piece(piece: &mut [u8]) -> usize
     ensures { λ r. ⌜ r ≤ length (now (piece .entry)) ⌝ }
 {
     let got = libc::read(STDIN_FILENO, piece);

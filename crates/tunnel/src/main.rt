@@ -1,5 +1,4 @@
 // Delivers standard input to a plain v5 session for 192.0.2.7, port 443, and says what it sent, how it ended and what was left.
-use libc::STDIN_FILENO;
 use libc::STDOUT_FILENO;
 use protocol::Family;
 use protocol::Outcome;
@@ -147,21 +146,13 @@ fn take_piece(course: Course, piece: &[u8], out: &mut [u8]) -> Course
     }
 }
 
-// Reads a piece, and says how many bytes it has: none at the input's end.
-fn read_piece(piece: &mut [u8]) -> usize
-    ensures { λ r. ⌜ r ≤ length (now (piece .entry)) ⌝ }
-{
-    let got = libc::read(STDIN_FILENO, piece);
-    io::count(got, piece)
-}
-
 fn run(piece: &mut [u8], out: &mut [u8]) -> Course
     requires { ⌜ length (now out) ≤ 1024 ⌝ }
 {
     let mut course = start(out);
     let mut turns = u64::MAX;
     while turns > 0 {
-        let n = read_piece(piece);
+        let n = input::read_piece(piece);
         if n == 0 {
             break;
         }
