@@ -1,7 +1,7 @@
 // Runs the handshakes of a stated load, and says how many opened and what they sent: `load COUNT SEED [bytes]`, with `bytes` in pieces of one byte.
 ghost use mathlib.Core.Path.{_≡_};
 ghost use mathlib.Core.Bool.{true};
-ghost use Prim.Native.Nat.{_*_, _≤_};
+ghost use Prim.Native.Nat.{_≤_};
 ghost use lib.ListN.{length, take};
 ghost use Rattle.load.specs.Tally.{sumOf, added, isOpen, settled};
 ghost use Rattle.session.specs.Session.{outcome};

@@ -4,7 +4,7 @@ use Rattle.report.specs.Text.{moreText}
 use Rattle.report.proofs.Added.{more-numbers}
 use lib.Seq.{take-all}
 use lib.ListN.{length, take, length-set}
-use mathlib.Core.Path.{_≡_, refl}
+use mathlib.Core.Path.{_≡_, refl, _∙_}
 use Prim.Native.Nat.{_+_, _*_, _-_, _≤_}
 use native.Mathlib.Omega.{arith}
 use borrow.Author.Needs.{needs}
@@ -42,8 +42,8 @@ loop-less c = search needs
 loop-again : tie.Need-loop-again Inv-loop μ-loop
 loop-again c =
     let b = c .before .before .before .before .before .before in
-    let e = length-set (b .loop .text) (b .loop .end) 0x2C in
-    (omega arith, (search needs, (search needs, more-numbers (c .before .before .before .before .before .before .before .before .before .args .numbers .now) (b .loop .i) _ (b .loop .inv .1 .1 .1) (c .before .before .before .before .before .loop-test .taken) refl (then (one _ _ _ (omega arith)) (c .before .before .put-code .ensures .1)))))
+    let t = then (one (b .loop .text) (b .loop .end) _ (omega arith)) (c .before .before .put-code .ensures .1) in
+    (t .same ∙ b .loop .inv .0, (search needs, (search needs, more-numbers (c .before .before .before .before .before .before .before .before .before .args .numbers .now) (b .loop .i) _ (b .loop .inv .1 .1 .1) (c .before .before .before .before .before .loop-test .taken) refl t)))
 
 same-length : tie.Need-same-length Inv-loop μ-loop
 same-length c = search needs

@@ -15,18 +15,23 @@ put-field-requires : tie.Need-put-field-requires
 put-field-requires c κs = simp length-set (omega arith)
 
 slice-write-text-2 : tie.Need-slice-write-text-2
-slice-write-text-2 c = omega (arith, length-set (c .before .before .before .before .before .before .args .text .now) (c .before .before .before .before .before .before .args .at) 0x20)
+slice-write-text-2 c =
+    let k = then (one (c .before .before .before .before .before .before .args .text .now) (c .before .before .before .before .before .before .args .at) _ (omega arith)) (c .before .before .put-field .ensures .1) in
+    omega (arith, k .same)
 
 add-result : tie.Need-add-result
 add-result c = search needs
 
 same-length : tie.Need-same-length
-same-length c = simp length-set (omega (arith, length-set (c .before .before .before .before .before .before .args .text .now) (c .before .before .before .before .before .before .args .at) 0x20))
+same-length c =
+    let k = then (one (c .before .before .before .before .before .before .args .text .now) (c .before .before .before .before .before .before .args .at) _ (omega arith)) (c .before .before .put-field .ensures .1) in
+    simp length-set (k .same)
 
 returns : tie.Need-returns
 returns c =
-    let e = length-set (c .before .before .before .before .before .before .args .text .now) (c .before .before .before .before .before .before .args .at) 0x20 in
-    (omega arith, then (then (one _ _ _ (omega arith)) (c .before .before .put-field .ensures .1)) (one _ _ _ (omega arith)))
+    let k = then (one (c .before .before .before .before .before .before .args .text .now) (c .before .before .before .before .before .before .args .at) _ (omega arith)) (c .before .before .put-field .ensures .1) in
+    let e = k .same in
+    (omega arith, then k (one _ _ _ (omega arith)))
 
 pub put-sent-spec : {M : Type 1} → statement M
 put-sent-spec =
