@@ -1,3 +1,2 @@
-// The cases on standard input.
+// The bytes of a case.
 pub mod heads;
-pub mod input;

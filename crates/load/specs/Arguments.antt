@@ -1,25 +1,6 @@
--- The arguments: a number of 1 to 18 digits; the word `bytes`.
-use Prim.Native.Nat.{ℕ, _+_, _*_, _-_}
-use mathlib.Core.Bool.{Bool, true, false, cond, _&&_}
+-- The third argument: the word `bytes`.
+use Prim.Native.Nat.{ℕ}
 use mathlib.Core.List.{List, [], _∷_}
-use lib.Dec.{ltb, leb, eqb}
-use lib.ListN.{length, getD}
-use Rattle.load.specs.declared.Number.{Number}
 
-abbrev pub isDigit : ℕ → Bool
-isDigit b = leb 48 b && leb b 57
-
-abbrev pub noNumber : Number
-noNumber = record { ok = false; value = 0 }
-
--- digits behind those of a value
-unfoldable pub digitsFrom : ℕ → List ℕ → Number
-digitsFrom n [] = record { ok = true; value = n }
-digitsFrom n (b ∷ s) = cond (isDigit b) (digitsFrom (n * 10 + (b - 48)) s) noNumber
-
-unfoldable pub numberOf : List ℕ → Number
-numberOf s = cond (eqb (length s) 0) noNumber (cond (ltb 18 (length s)) noNumber (digitsFrom 0 s))
-
-unfoldable pub isBytes : List ℕ → Bool
-isBytes s =
-    cond (eqb (length s) 5) (eqb (getD s 0 0) 0x62 && (eqb (getD s 1 0) 0x79 && (eqb (getD s 2 0) 0x74 && (eqb (getD s 3 0) 0x65 && eqb (getD s 4 0) 0x73)))) false
+abbrev pub bytesWord : List ℕ
+bytesWord = 0x62 ∷ 0x79 ∷ 0x74 ∷ 0x65 ∷ 0x73 ∷ []

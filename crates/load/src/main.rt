@@ -1,14 +1,14 @@
 // Runs the handshakes of a stated load, and says how many opened and what they sent: `load COUNT SEED [bytes]`, with `bytes` in pieces of one byte.
 ghost use mathlib.Core.Path.{_≡_};
-ghost use Prim.Native.Nat.{_*_, _≤_};
+ghost use mathlib.Core.Bool.{true};
+ghost use Prim.Native.Nat.{_≤_};
 ghost use lib.ListN.{length, take};
 ghost use Rattle.load.specs.Tally.{sumOf, added, isOpen, settled};
 ghost use Rattle.session.specs.Session.{outcome};
-ghost use Rattle.load.specs.Arguments.{isDigit, noNumber, digitsFrom, numberOf, isBytes};
-
-mod draws;
-
+ghost use Rattle.load.specs.Arguments.{bytesWord};
 use libc::STDOUT_FILENO;
+use numerals::read;
+use numerals::read::Number;
 use protocol::Family;
 use protocol::Outcome;
 use protocol::Port;
@@ -225,71 +225,16 @@ fn run(count: u64, seed: u32, single: bool) -> Tally {
     tally
 }
 
-// A number of at most 18 digits.
-struct Number {
-    ok: bool,
-    value: u64,
-}
-
-fn no_number() -> Number
-    ensures { λ r. ⌜ r ≡ noNumber ⌝ }
-{
-    Number {
-        ok: false,
-        value: 0,
-    }
-}
-
-fn is_digit(b: u8) -> bool
-    ensures { λ r. ⌜ r ≡ isDigit b ⌝ }
-{
-    48 <= b && b <= 57
-}
-
-// The value of digits; not ok if there is another byte among them.
-fn digits_of(text: &[u8]) -> Number
-    requires { ⌜ length (now text) ≤ 18 ⌝ }
-    ensures { λ r. ⌜ r ≡ digitsFrom 0 (now (text .entry)) ⌝ }
-{
-    let mut value: u64 = 0;
-    let mut i = 0;
-    while i < text.len() {
-        let b = text[i];
-        if !is_digit(b) {
-            return no_number();
-        }
-        value = value * 10 + (b - 48) as u64;
-        i += 1;
-    }
-    Number { ok: true, value }
-}
-
-fn number_of(text: &[u8]) -> Number
-    ensures { λ r. ⌜ r ≡ numberOf (now (text .entry)) ⌝ }
-{
-    if text.len() == 0 {
-        return no_number();
-    }
-    if text.len() > 18 {
-        return no_number();
-    }
-    digits_of(text)
-}
-
 fn argument(i: usize) -> Number {
     let mut text = [0u8; 32];
     let n = os::arg(i, &mut text);
-    number_of(&text[..n])
+    read::number_of(&text[..n])
 }
 
 fn is_bytes(text: &[u8]) -> bool
-    ensures { λ r. ⌜ r ≡ isBytes (now (text .entry)) ⌝ }
+    ensures { λ r. ⌜ (r ≡ true → now (text .entry) ≡ bytesWord) × (now (text .entry) ≡ bytesWord → r ≡ true) ⌝ }
 {
-    if text.len() != 5 {
-        return false;
-    }
-    text[0] == b'b'
-        && (text[1] == b'y' && (text[2] == b't' && (text[3] == b'e' && text[4] == b's')))
+    check::same(text, b"bytes")
 }
 
 // Whether the third argument is `bytes`.

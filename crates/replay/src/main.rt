@@ -1,22 +1,20 @@
 // Runs the cases on standard input, each an opening, its deliveries and perhaps an end, and says in a line what each came to.
 ghost use mathlib.Core.Path.{_≡_};
+ghost use mathlib.Core.Bool.{true};
 ghost use Prim.Native.Nat.{_+_, _≤_};
 ghost use lib.ListN.{length};
-ghost use Rattle.cases.specs.Inputs.{Unread};
-ghost use Rattle.report.specs.Lines.{Within};
-ghost use Rattle.replay.specs.Bounds.{Keeps, Rooms};
+ghost use Rattle.input.specs.Inputs.{Unread};
+ghost use Rattle.lines.specs.Lines.{Within};
+ghost use Rattle.course.specs.Bounds.{Keeps, Rooms};
 ghost use Rattle.cases.specs.Cases.{Ordered};
-
-mod course;
-
+ghost use Rattle.replay.specs.Deliveries.{Next};
 use cases::heads;
 use cases::heads::Head;
-use cases::input;
-use cases::input::Input;
 use course::Course;
+use course::SENT;
+use input::Input;
 use libc::STDOUT_FILENO;
-use report::lines;
-use report::lines::Line;
+use lines::Line;
 
 // More than all that stands before the deliveries of a case: three texts of 65,535 bytes and 255 records.
 const OPENING: usize = 201000;
@@ -28,16 +26,20 @@ const INPUT: usize = 524288;
 
 const TEXT: usize = 327680;
 
-// More than a session sends in all its calls.
-const SENT: usize = 8192;
-
-const ANSWERS: usize = 65535;
+// What a session sends, and the answers of the most deliveries.
+const KEPT: usize = 73727;
 
 // Between two cases: how much text there is to be written, and whether to read on.
 struct Stand {
     input: Input,
     end: usize,
     more: bool,
+}
+
+// A delivery that is unread, and its size; 0 if it is not whole.
+struct Found {
+    input: Input,
+    size: usize,
 }
 
 // How far the deliveries of a case were read, and whether they were all there.
@@ -53,6 +55,20 @@ struct Done {
     whole: bool,
 }
 
+fn want_delivery(from: Input, buffer: &mut [u8]) -> Found
+    requires { ⌜ Unread from (length (now buffer)) ⌝ }
+    ensures { λ r. ⌜ Next r (now (buffer .exit)) ⌝ }
+{
+    let input = input::want(from, buffer, DELIVERY);
+    let at = input.at;
+    let end = input.end;
+    let n = heads::delivery_size(&buffer[at..end]);
+    if end - at < n {
+        return Found { input, size: 0 };
+    }
+    Found { input, size: n }
+}
+
 // Passes over deliveries.
 fn skip_deliveries(from: Input, count: usize, buffer: &mut [u8]) -> Passed
     requires { ⌜ Unread from (length (now buffer)) ⌝ }
@@ -61,17 +77,15 @@ fn skip_deliveries(from: Input, count: usize, buffer: &mut [u8]) -> Passed
     let mut input = from;
     let mut left = count;
     while left > 0 {
-        input = input::want(input, buffer, DELIVERY);
-        let at = input.at;
-        let end = input.end;
-        let n = heads::delivery_size(&buffer[at..end]);
-        if end - at < n {
+        let found = want_delivery(input, buffer);
+        input = found.input;
+        if found.size == 0 {
             return Passed {
                 input,
                 whole: false,
             };
         }
-        input = input::past(input, n);
+        input = input::past(input, found.size);
         left -= 1;
     }
     Passed { input, whole: true }
@@ -82,31 +96,30 @@ fn take_deliveries(
     start: Course,
     count: usize,
     buffer: &mut [u8],
-    answers: &mut [u8],
-    sent: &mut [u8],
+    kept: &mut [u8],
     text: &mut [u8],
 ) -> Done
-    requires { ⌜ (Unread from (length (now buffer))) × ((Keeps start (length (now sent)) (length (now text))) × ((count ≤ 65535) × (Rooms (length (now answers)) (length (now sent)) (length (now text))))) ⌝ }
-    ensures { λ r. ⌜ (Unread (r .input) (length (now (buffer .entry)))) × (Keeps (r .course) (length (now (sent .entry))) (length (now (text .entry)))) ⌝ }
+    requires { ⌜ (Unread from (length (now buffer))) × ((Keeps start (length (now text))) × ((count ≤ 65535) × (Rooms (length (now kept)) (length (now text))))) ⌝ }
+    ensures { λ r. ⌜ (Unread (r .input) (length (now (buffer .entry)))) × (Keeps (r .course) (length (now (text .entry)))) ⌝ }
 {
     let mut input = from;
     let mut course = start;
     let mut i = 0;
     while i < count {
-        input = input::want(input, buffer, DELIVERY);
-        let at = input.at;
-        let end = input.end;
-        let n = heads::delivery_size(&buffer[at..end]);
-        if end - at < n {
+        let found = want_delivery(input, buffer);
+        input = found.input;
+        if found.size == 0 {
             return Done {
                 input,
                 course,
                 whole: false,
             };
         }
-        course = course::take_delivery(course, &buffer[at..end], sent, text);
-        answers[i] = course.answer;
-        input = input::past(input, n);
+        let at = input.at;
+        let end = input.end;
+        course = course::take_delivery(course, &buffer[at..end], kept, text);
+        kept[SENT + i] = course.answer;
+        input = input::past(input, found.size);
         i += 1;
     }
     Done {
@@ -128,23 +141,73 @@ fn refuse(input: Input, line: Line, offset: u64, text: &mut [u8]) -> Stand
     }
 }
 
+// The number of deliveries stands behind the records.
+fn count_of(s: &[u8], head: Head) -> usize
+    requires { ⌜ Ordered head ⌝ }
+    ensures { λ r. ⌜ r ≤ 65535 ⌝ }
+{
+    heads::number_at(s, head.size - 2) as usize
+}
+
 // A case of more records than a list holds.
 fn skip_case(input: Input, head: Head, line: Line, buffer: &mut [u8], text: &mut [u8]) -> Stand
-    requires { ⌜ (Unread input (length (now buffer))) × ((Ordered head) × ((head .size + input .at ≤ input .end) × ((Within line (length (now text))) × (64 ≤ length (now text))))) ⌝ }
+    requires { ⌜ (Unread input (length (now buffer))) × ((Ordered head) × ((input .at + head .size ≤ input .end) × ((Within line (length (now text))) × (64 ≤ length (now text))))) ⌝ }
     ensures { λ r. ⌜ (Unread (r .input) (length (now (buffer .entry)))) × (r .end ≤ length (now (text .entry))) ⌝ }
 {
     let at = input.at;
     let end = input.end;
-    let offset = input.offset;
-    let count = heads::number_at(&buffer[at..end], head.size - 2) as usize;
+    let count = count_of(&buffer[at..end], head);
     let passed = skip_deliveries(input::past(input, head.size), count, buffer);
     let next = passed.input;
     if !passed.whole {
-        return refuse(next, line, offset, text);
+        return refuse(next, line, input.offset, text);
     }
     Stand {
         input: next,
-        end: lines::put_notice(line, b"too many records at ", offset, text),
+        end: lines::put_notice(line, b"too many records at ", input.offset, text),
+        more: true,
+    }
+}
+
+// An opened case. ends: whether the stream ends behind its deliveries.
+struct Begun {
+    course: Course,
+    count: usize,
+    ends: bool,
+}
+
+fn open(s: &[u8], head: Head, line: Line, kept: &mut [u8]) -> Begun
+    requires { ⌜ (Ordered head) × ((head .count ≤ 8) × ((head .size ≤ length (now s)) × (8192 ≤ length (now kept)))) ⌝ }
+    ensures { λ r. ⌜ (r .course .line ≡ line) × ((r .course .sent ≤ 8192) × (r .count ≤ 65535)) ⌝ }
+{
+    let course = course::start(s, head, line, kept);
+    Begun {
+        course,
+        count: count_of(s, head),
+        ends: heads::ends(heads::byte_at(s, 1)),
+    }
+}
+
+// The line of a case that began so at an offset.
+fn close(done: Done, begun: Begun, offset: u64, kept: &[u8], text: &mut [u8]) -> Stand
+    requires { ⌜ (Keeps (done .course) (length (now text))) × ((begun .count ≤ 65535) × (Rooms (length (now kept)) (length (now text)))) ⌝ }
+    ensures { λ r. ⌜ (r .input ≡ done .input) × (r .end ≤ length (now (text .entry))) ⌝ }
+{
+    let input = done.input;
+    let course = done.course;
+    if !done.whole {
+        return refuse(input, course.line, offset, text);
+    }
+    Stand {
+        input,
+        end: course::finish(
+            course,
+            begun.course.answer,
+            begun.ends,
+            begun.count,
+            kept,
+            text,
+        ),
         more: true,
     }
 }
@@ -154,50 +217,46 @@ fn run_case(
     head: Head,
     line: Line,
     buffer: &mut [u8],
-    answers: &mut [u8],
-    sent: &mut [u8],
+    kept: &mut [u8],
     text: &mut [u8],
 ) -> Stand
-    requires { ⌜ (Unread input (length (now buffer))) × ((Ordered head) × ((head .count ≤ 8) × ((head .size + input .at ≤ input .end) × ((Within line (length (now text))) × (Rooms (length (now answers)) (length (now sent)) (length (now text))))))) ⌝ }
+    requires { ⌜ (Unread input (length (now buffer))) × ((Ordered head) × ((head .count ≤ 8) × ((input .at + head .size ≤ input .end) × ((Within line (length (now text))) × (Rooms (length (now kept)) (length (now text))))))) ⌝ }
     ensures { λ r. ⌜ (Unread (r .input) (length (now (buffer .entry)))) × (r .end ≤ length (now (text .entry))) ⌝ }
 {
     let at = input.at;
-    let end = input.end;
-    let offset = input.offset;
-    let count = heads::number_at(&buffer[at..end], head.size - 2) as usize;
-    let ends = heads::ends(heads::byte_at(&buffer[at..end], 1));
-    let start = course::start(&buffer[at..end], head, line, sent);
-    let opened = start.answer;
+    let stop = input.end;
+    let begun = open(&buffer[at..stop], head, line, kept);
+    let first = begun.course;
     let behind = input::past(input, head.size);
-    let done = take_deliveries(behind, start, count, buffer, answers, sent, text);
-    let next = done.input;
-    let course = done.course;
-    if !done.whole {
-        return refuse(next, course.line, offset, text);
-    }
-    let kept = course.sent;
-    Stand {
-        input: next,
-        end: course::finish(course, opened, ends, &answers[..count], &sent[..kept], text),
-        more: true,
+    let done = take_deliveries(behind, first, begun.count, buffer, kept, text);
+    close(done, begun, input.offset, kept, text)
+}
+
+// What stands before the deliveries of a case, and whether it is good.
+struct Seen {
+    head: Head,
+    good: bool,
+}
+
+fn look(s: &[u8]) -> Seen
+    ensures { λ r. ⌜ (Ordered (r .head)) × (r .good ≡ true → r .head .size ≤ length (now (s .entry))) ⌝ }
+{
+    let head = heads::head_of(s);
+    Seen {
+        head,
+        good: heads::is_good(s, head),
     }
 }
 
 // The next case, if there is one.
-fn turn(
-    stand: Stand,
-    buffer: &mut [u8],
-    answers: &mut [u8],
-    sent: &mut [u8],
-    text: &mut [u8],
-) -> Stand
-    requires { ⌜ (Unread (stand .input) (length (now buffer))) × ((stand .end ≤ length (now text)) × (Rooms (length (now answers)) (length (now sent)) (length (now text)))) ⌝ }
+fn turn(stand: Stand, buffer: &mut [u8], kept: &mut [u8], text: &mut [u8]) -> Stand
+    requires { ⌜ (Unread (stand .input) (length (now buffer))) × ((stand .end ≤ length (now text)) × (Rooms (length (now kept)) (length (now text)))) ⌝ }
     ensures { λ r. ⌜ (Unread (r .input) (length (now (buffer .entry)))) × (r .end ≤ length (now (text .entry))) ⌝ }
 {
     let input = input::want(stand.input, buffer, OPENING);
     let at = input.at;
-    let end = input.end;
-    if at == end {
+    let stop = input.end;
+    if at == stop {
         return Stand {
             input,
             end: stand.end,
@@ -205,20 +264,19 @@ fn turn(
         };
     }
     let line = lines::new_line(text, stand.end);
-    let head = heads::head_of(&buffer[at..end]);
-    if !heads::is_good(&buffer[at..end], head) {
+    let seen = look(&buffer[at..stop]);
+    let head = seen.head;
+    if !seen.good {
         return refuse(input, line, input.offset, text);
     }
     if head.count > 8 {
         return skip_case(input, head, line, buffer, text);
     }
-    run_case(input, head, line, buffer, answers, sent, text)
+    run_case(input, head, line, buffer, kept, text)
 }
 
-// All cases. It answers how much text is left to be written.
-fn run_cases(buffer: &mut [u8], answers: &mut [u8], sent: &mut [u8], text: &mut [u8]) -> usize
-    requires { ⌜ Rooms (length (now answers)) (length (now sent)) (length (now text)) ⌝ }
-    ensures { λ r. ⌜ r ≤ length (now (text .entry)) ⌝ }
+fn run(buffer: &mut [u8], kept: &mut [u8], text: &mut [u8])
+    requires { ⌜ Rooms (length (now kept)) (length (now text)) ⌝ }
 {
     let mut stand = Stand {
         input: input::new(),
@@ -227,26 +285,16 @@ fn run_cases(buffer: &mut [u8], answers: &mut [u8], sent: &mut [u8], text: &mut 
     };
     let mut turns = u64::MAX;
     while turns > 0 {
-        stand = turn(stand, buffer, answers, sent, text);
-        if !stand.more {
-            return stand.end;
-        }
-        turns -= 1;
+        stand = turn(stand, buffer, kept, text);
+        turns = input::turns_left(turns, stand.more);
     }
-    stand.end
-}
-
-fn run(buffer: &mut [u8], answers: &mut [u8], sent: &mut [u8], text: &mut [u8])
-    requires { ⌜ Rooms (length (now answers)) (length (now sent)) (length (now text)) ⌝ }
-{
-    let end = run_cases(buffer, answers, sent, text);
+    let end = stand.end;
     io::write_all(STDOUT_FILENO, &text[..end]);
 }
 
 fn main() {
     let mut buffer = [0u8; INPUT];
-    let mut answers = [0u8; ANSWERS];
-    let mut sent = [0u8; SENT];
+    let mut kept = [0u8; KEPT];
     let mut text = [0u8; TEXT];
-    run(&mut buffer, &mut answers, &mut sent, &mut text);
+    run(&mut buffer, &mut kept, &mut text);
 }

@@ -1,22 +1,14 @@
 -- The text that a case is answered with.
-use Prim.Native.Nat.{ℕ, zero, suc, _+_, _/_, _%_}
-use mathlib.Core.Path.{_≡_}
+use Prim.Native.Nat.{ℕ}
 use mathlib.Core.Bool.{Bool, cond}
 use mathlib.Core.List.{List, [], _∷_, _++_}
-use lib.Dec.{ltb, eqb}
-use lib.ListN.{length, take}
-use Rattle.io.specs.Digits.{glyph}
+use lib.Dec.{eqb}
+use lib.ListN.{length}
+use Rattle.numerals.specs.Digits.{hexOf, decimalOf}
 use Rattle.protocol.specs.Numbers.{number, status}
-use Rattle.protocol.specs.declared.Answer.{Answer}
-use Rattle.protocol.specs.declared.Answer.the-variants.{Accepted, Refused}
 use Rattle.protocol.specs.declared.Outcome.{Outcome}
 use Rattle.protocol.specs.declared.Outcome.the-variants.{Waiting, Open, Failed}
-use Rattle.report.specs.declared.text.Results.{Results}
-
--- bytes are put at the end of the text: it ended at a place, and ends at the next one
-pub record Adds (text : List ℕ) (at : ℕ) (bs : List ℕ) (next : ℕ) (text′ : List ℕ) : Type 0 where
-  pub place : next ≡ at + length bs
-  pub added : take next text′ ≡ take at text ++ bs
+use Rattle.report.specs.declared.Results.{Results}
 
 abbrev pub space : List ℕ
 space = 0x20 ∷ []
@@ -27,31 +19,12 @@ newline = 0x0A ∷ []
 abbrev pub none : List ℕ
 none = 0x2D ∷ []
 
--- two digits for each byte
-unfoldable pub hexOf : List ℕ → List ℕ
-hexOf [] = []
-hexOf (b ∷ s) = glyph (b / 16) ∷ glyph (b % 16) ∷ hexOf s
-
 -- `-` for no bytes
 abbrev pub fieldOf : List ℕ → List ℕ
 fieldOf s = cond (eqb (length s) 0) none (hexOf s)
 
--- at most so many digits, with no zero in front
-unfoldable pub decimalFrom : ℕ → ℕ → List ℕ
-decimalFrom zero n = []
-decimalFrom (suc k) n = cond (ltb n 10) (glyph n ∷ []) (decimalFrom k (n / 10) ++ (glyph (n % 10) ∷ []))
-
--- 20 digits hold every number of 64 bits
-unfoldable pub decimalOf : ℕ → List ℕ
-decimalOf n = decimalFrom 20 n
-
 abbrev pub numberText : ℕ → List ℕ
 numberText n = decimalOf n ++ space
-
--- 0 for a call that was accepted
-abbrev pub answerNumber : Answer → ℕ
-answerNumber Accepted = 0
-answerNumber (Refused e) = number e
 
 -- `waiting`, 0 for open, or a failure's number
 abbrev pub outcomeText : Outcome → List ℕ

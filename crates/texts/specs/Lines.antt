@@ -1,11 +1,10 @@
 -- The line that a record is answered with.
-use Prim.Native.Nat.{ℕ, _+_, _-_, _/_, _%_}
-use mathlib.Core.Path.{_≡_}
+use Prim.Native.Nat.{ℕ, _-_}
 use mathlib.Core.Bool.{Bool, cond}
 use mathlib.Core.List.{List, [], _∷_, _++_}
 use lib.Dec.{eqb}
 use lib.ListN.{length, getD, take, drop}
-use Rattle.io.specs.Digits.{glyph}
+use Rattle.numerals.specs.Digits.{hexOf}
 use Rattle.protocol.specs.declared.AddressKind.{AddressKind}
 use Rattle.protocol.specs.declared.AddressKind.the-variants.{Ipv4, Ipv6, Domain}
 use Rattle.protocol.specs.AddressReading.{destinationOf}
@@ -13,11 +12,6 @@ use Rattle.protocol.specs.Host.{strip}
 use Rattle.protocol.specs.Utf8.{isUtf8}
 use Rattle.addresses.specs.declared.AddressText.{AddressText}
 use Rattle.addresses.specs.Answers.{addressText}
-
--- two digits for each byte
-unfoldable pub hexOf : List ℕ → List ℕ
-hexOf [] = []
-hexOf (b ∷ s) = glyph (b / 16) ∷ glyph (b % 16) ∷ hexOf s
 
 -- `4` or `6`, a space, and the address; or `n`
 abbrev pub kindLine : AddressKind → List ℕ → List ℕ
@@ -41,10 +35,6 @@ answerOf kind text =
     cond (eqb kind 0x41) (addressLine (addressText (destinationOf text)))
     (cond (eqb kind 0x55) (utf8Line (isUtf8 text)) (hostLine (strip text)))
 
--- the line for the record of n bytes at a place
-unfoldable pub lineAt : List ℕ → ℕ → ℕ → List ℕ
-lineAt s at n = answerOf (getD s at 0) (take (n - 3) (drop (at + 3) s)) ++ (0x0A ∷ [])
-
--- bytes are put at the end of the output: it ended at a place, and ends at the next one
-pub record Adds (out : List ℕ) (end : ℕ) (bs : List ℕ) (next : ℕ) (out′ : List ℕ) : Type 0 where
-  pub added : take next out′ ≡ take end out ++ bs
+-- the line for the record of n bytes that stands first
+unfoldable pub lineOf : List ℕ → ℕ → List ℕ
+lineOf s n = answerOf (getD s 0 0) (take (n - 3) (drop 3 s)) ++ (0x0A ∷ [])

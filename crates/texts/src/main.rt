@@ -1,24 +1,29 @@
 // Answers records from standard input, a line each: `A` address text, `H` a host's brackets, `U` UTF-8.
 // A record is its kind, a length of two bytes, and so many bytes.
-use libc::STDIN_FILENO;
+use input::Input;
 use libc::STDOUT_FILENO;
+use numerals::put_hex;
 use protocol::AddressKind;
 ghost use mathlib.Core.Path.{_≡_};
-ghost use Prim.Native.Nat.{_+_, _*_, _-_, _≤_, _<_};
+ghost use Prim.Native.Nat.{_+_, _*_, _≤_, _<_};
 ghost use mathlib.Core.List.{_∷_};
-ghost use lib.ListN.{length, take, drop};
-ghost use Rattle.io.specs.Digits.{glyph};
+ghost use lib.ListN.{length, take};
+ghost use Rattle.input.specs.Inputs.{Unread};
+ghost use Rattle.numerals.specs.Added.{Adds};
+ghost use Rattle.numerals.specs.Digits.{hexOf};
 ghost use Rattle.protocol.specs.AddressReading.{destinationOf};
 ghost use Rattle.protocol.specs.Host.{strip};
 ghost use Rattle.protocol.specs.Utf8.{isUtf8};
 ghost use Rattle.addresses.specs.Answers.{addressText};
 ghost use Rattle.texts.specs.Records.{isKind, Sized};
-ghost use Rattle.texts.specs.Lines.{hexOf, addressLine, utf8Line, hostLine, answerOf, lineAt, Adds};
+ghost use Rattle.texts.specs.Lines.{addressLine, utf8Line, hostLine, answerOf, lineOf};
 
-// Room for more than one of the largest records, and for more than one of the longest lines.
+// Twice the largest record.
 const INPUT: usize = 131072;
 
 const OUTPUT: usize = 262144;
+
+const RECORD: usize = 65538;
 
 // More than the longest line, which is 65,535 bytes in hexadecimal and its end.
 const LINE: usize = 131072;
@@ -29,33 +34,8 @@ fn wide(b: u8) -> usize
     b as usize
 }
 
-// The ASCII code of a digit below 16.
-fn hex_digit(d: u8) -> u8
-    requires { ⌜ d < 16 ⌝ }
-    ensures { λ r. ⌜ r ≡ glyph d ⌝ }
-{
-    if d < 10 { 48 + d } else { 87 + d }
-}
-
-// Two digits for each byte. Each `put_` function puts its bytes into the output from a place on, and answers the place behind them.
-fn put_hex(s: &[u8], out: &mut [u8], at: usize) -> usize
-    requires { ⌜ at + 2 * length (now s) ≤ length (now out) ⌝ }
-    ensures { λ r. ⌜ r ≡ at + 2 * length (now (s .entry)) ⌝ }
-    ensures { λ r. ⌜ Adds (now (out .entry)) at (hexOf (now (s .entry))) r (now (out .exit)) ⌝ }
-{
-    let mut i = 0;
-    let mut end = at;
-    while i < s.len() {
-        let b = s[i];
-        out[end] = hex_digit(b / 16);
-        out[end + 1] = hex_digit(b % 16);
-        end += 2;
-        i += 1;
-    }
-    end
-}
-
-// A family's digit, a space, and the first n bytes of an address.
+// A family's digit, a space, and the first n bytes of an address. Each `put_` function puts its bytes into the output from a place on, and
+// answers the place behind them.
 fn put_family(digit: u8, bytes: [u8; 16], n: usize, out: &mut [u8], at: usize) -> usize
     requires { ⌜ (n ≤ 16) × (at + 34 ≤ length (now out)) ⌝ }
     ensures { λ r. ⌜ r ≡ at + 2 + 2 * n ⌝ }
@@ -124,15 +104,14 @@ fn put_answer(kind: u8, text: &[u8], out: &mut [u8], at: usize) -> usize
     put_host(text, out, at)
 }
 
-// The answer to the record of n bytes at from, as a line.
-fn put_line(input: &[u8], from: usize, n: usize, out: &mut [u8], at: usize) -> usize
-    requires { ⌜ (3 ≤ n) × ((n ≤ 65538) × ((from + n ≤ length (now input)) × (at + 131072 ≤ length (now out)))) ⌝ }
+// The answer to the record of n bytes that stands first, as a line.
+fn put_line(s: &[u8], n: usize, out: &mut [u8], at: usize) -> usize
+    requires { ⌜ (3 ≤ n) × ((n ≤ 65538) × ((n ≤ length (now s)) × (at + 131072 ≤ length (now out)))) ⌝ }
     ensures { λ r. ⌜ r ≤ at + 131072 ⌝ }
-    ensures { λ r. ⌜ Adds (now (out .entry)) at (lineAt (now (input .entry)) from n) r (now (out .exit)) ⌝ }
+    ensures { λ r. ⌜ Adds (now (out .entry)) at (lineOf (now (s .entry)) n) r (now (out .exit)) ⌝ }
 {
-    let start = from + 3;
-    let stop = from + n;
-    let end = put_answer(input[from], &input[start..stop], out, at);
+    let text = 3;
+    let end = put_answer(s[0], &s[text..n], out, at);
     out[end] = b'\n';
     end + 1
 }
@@ -143,20 +122,18 @@ fn is_kind(b: u8) -> bool
     b == b'A' || (b == b'H' || b == b'U')
 }
 
-// How many bytes the record at a place has; 0 if it is of no kind or not whole.
-fn record_at(input: &[u8], at: usize) -> usize
-    requires { ⌜ at < length (now input) ⌝ }
-    ensures { λ r. ⌜ Sized (now (input .entry)) at r ⌝ }
+// How many bytes the first record has; 0 if it is of no kind or not whole.
+fn record_size(s: &[u8]) -> usize
+    ensures { λ r. ⌜ Sized (now (s .entry)) r ⌝ }
 {
-    if !is_kind(input[at]) {
+    if s.len() < 3 {
         return 0;
     }
-    let left = input.len() - at;
-    if left < 3 {
+    if !is_kind(s[0]) {
         return 0;
     }
-    let n = 3 + (wide(input[at + 1]) * 256 + wide(input[at + 2]));
-    if left < n {
+    let n = 3 + (wide(s[1]) * 256 + wide(s[2]));
+    if s.len() < n {
         return 0;
     }
     n
@@ -174,127 +151,75 @@ fn make_room(out: &[u8], at: usize) -> usize
     0
 }
 
-// Answers all records up to the first that is of no kind or not whole, and says where that begins.
-fn answer(input: &[u8], out: &mut [u8]) -> usize
-    requires { ⌜ 131072 ≤ length (now out) ⌝ }
-    ensures { λ r. ⌜ r ≤ length (now (input .entry)) ⌝ }
-{
-    let mut at = 0;
-    let mut end = 0;
-    while at < input.len() {
-        let n = record_at(input, at);
-        if n == 0 {
-            break;
-        }
-        let room = make_room(out, end);
-        end = put_line(input, at, n, out, room);
-        at += n;
-    }
-    io::write_all(STDOUT_FILENO, &out[..end]);
-    at
-}
-
-// Moves the bytes from a place up to n to the input's start, and says how many they are.
-fn keep(input: &mut [u8], from: usize, n: usize) -> usize
-    requires { ⌜ (from ≤ n) × (n ≤ length (now input)) ⌝ }
-    ensures { λ r. ⌜ r ≡ n - from ⌝ }
-    ensures { λ r. ⌜ take r (now (input .exit)) ≡ take r (drop from (now (input .entry))) ⌝ }
-{
-    let mut i = 0;
-    let mut at = from;
-    while at < n {
-        input[i] = input[at];
-        i += 1;
-        at += 1;
-    }
-    i
-}
-
-// Says where a record is of no kind or not whole.
-fn refuse(offset: u64) {
-    io::write_all(STDOUT_FILENO, b"bad record at ");
-    io::print_decimal(STDOUT_FILENO, offset);
-    io::write_all(STDOUT_FILENO, b"\n");
-}
-
-// Between two reads: how many bytes are held at the start of the input, the first one's offset, and whether to read on.
-struct Rest {
-    held: usize,
-    offset: u64,
+// Between two records: how many bytes of the output are to be written, and whether to read on.
+struct Stand {
+    input: Input,
+    end: usize,
     more: bool,
 }
 
-// Reads behind what is held, until the input is full or at its end, and says how many bytes it then has.
-fn read_on(held: usize, input: &mut [u8]) -> usize
-    requires { ⌜ held ≤ length (now input) ⌝ }
-    ensures { λ r. ⌜ r ≤ length (now (input .entry)) ⌝ }
+// Says, behind what is to be written, where a record is of no kind or not whole: nothing is read on.
+fn refuse(input: Input, out: &[u8], end: usize) -> Stand
+    requires { ⌜ end ≤ length (now out) ⌝ }
+    ensures { λ r. ⌜ (r .input ≡ input) × (r .end ≤ length (now (out .entry))) ⌝ }
 {
-    held + io::read_full(STDIN_FILENO, &mut input[held..])
+    io::write_all(STDOUT_FILENO, &out[..end]);
+    io::write_all(STDOUT_FILENO, b"bad record at ");
+    io::print_decimal(STDOUT_FILENO, input.offset);
+    io::write_all(STDOUT_FILENO, b"\n");
+    Stand {
+        input,
+        end: 0,
+        more: false,
+    }
 }
 
-// What is left of n bytes behind those that were used. The first byte left has the offset; if no record begins there, or the input
-// ends within it, that is said and there is nothing more.
-fn rest_of(input: &mut [u8], used: usize, n: usize, offset: u64) -> Rest
-    requires { ⌜ (used ≤ n) × (n ≤ length (now input)) ⌝ }
-    ensures { λ r. ⌜ r .held ≤ length (now (input .entry)) ⌝ }
+// The next record, if there is one.
+fn turn(stand: Stand, buffer: &mut [u8], out: &mut [u8]) -> Stand
+    requires { ⌜ (Unread (stand .input) (length (now buffer))) × ((stand .end ≤ length (now out)) × (131072 ≤ length (now out))) ⌝ }
+    ensures { λ r. ⌜ (Unread (r .input) (length (now (buffer .entry)))) × (r .end ≤ length (now (out .entry))) ⌝ }
 {
-    let ended = n < input.len();
-    if used == n {
-        return Rest {
-            held: 0,
-            offset,
-            more: !ended,
-        };
-    }
-    if ended || !is_kind(input[used]) {
-        refuse(offset);
-        return Rest {
-            held: 0,
-            offset,
+    let input = input::want(stand.input, buffer, RECORD);
+    let at = input.at;
+    let end = input.end;
+    if at == end {
+        return Stand {
+            input,
+            end: stand.end,
             more: false,
         };
     }
-    Rest {
-        held: keep(input, used, n),
-        offset,
+    let n = record_size(&buffer[at..end]);
+    if n == 0 {
+        return refuse(input, out, stand.end);
+    }
+    let room = make_room(out, stand.end);
+    Stand {
+        input: input::past(input, n),
+        end: put_line(&buffer[at..end], n, out, room),
         more: true,
     }
 }
 
-// Reads on, and answers the records that are whole.
-fn turn(held: usize, offset: u64, input: &mut [u8], out: &mut [u8]) -> Rest
-    requires { ⌜ (held ≤ length (now input)) × (131072 ≤ length (now out)) ⌝ }
-    ensures { λ r. ⌜ r .held ≤ length (now (input .entry)) ⌝ }
-{
-    let n = read_on(held, input);
-    let used = answer(&input[..n], out);
-    rest_of(
-        input,
-        used,
-        n,
-        std::num::wrapping_add_u64(offset, used as u64),
-    )
-}
-
-fn run(input: &mut [u8], out: &mut [u8])
+fn run(buffer: &mut [u8], out: &mut [u8])
     requires { ⌜ 131072 ≤ length (now out) ⌝ }
 {
+    let mut stand = Stand {
+        input: input::new(),
+        end: 0,
+        more: true,
+    };
     let mut turns = u64::MAX;
-    let mut held = 0;
-    let mut offset = 0;
     while turns > 0 {
-        let rest = turn(held, offset, input, out);
-        if !rest.more {
-            break;
-        }
-        held = rest.held;
-        offset = rest.offset;
-        turns -= 1;
+        stand = turn(stand, buffer, out);
+        turns = input::turns_left(turns, stand.more);
     }
+    let end = stand.end;
+    io::write_all(STDOUT_FILENO, &out[..end]);
 }
 
 fn main() {
-    let mut input = [0u8; INPUT];
+    let mut buffer = [0u8; INPUT];
     let mut out = [0u8; OUTPUT];
-    run(&mut input, &mut out);
+    run(&mut buffer, &mut out);
 }

@@ -1,5 +1,4 @@
 // Delivers standard input to a plain v5 session for 192.0.2.7, port 443, and says what it sent, how it ended and what was left.
-use libc::STDIN_FILENO;
 use libc::STDOUT_FILENO;
 use protocol::Family;
 use protocol::Outcome;
@@ -11,10 +10,9 @@ use socks::Opened;
 use socks::Session;
 use socks::errors;
 ghost use mathlib.Core.Path.{_≡_};
-ghost use Prim.Native.Nat.{_+_, _*_, _%_, _^_, _≤_, _<_};
-ghost use lib.ListN.{length, take};
-ghost use Rattle.io.specs.Digits.{glyph};
-ghost use Rattle.tunnel.specs.Lines.{hexOf, outcomeNumbers};
+ghost use Prim.Native.Nat.{_+_, _%_, _^_, _≤_};
+ghost use lib.ListN.{length};
+ghost use Rattle.tunnel.specs.Lines.{outcomeNumbers};
 
 const PIECE: usize = 513;
 
@@ -23,37 +21,11 @@ const OUTPUT: usize = 1024;
 
 const TEXT: usize = 2048;
 
-// The ASCII code of a digit below 16.
-fn hex_digit(d: u8) -> u8
-    requires { ⌜ d < 16 ⌝ }
-    ensures { λ r. ⌜ r ≡ glyph d ⌝ }
-{
-    if d < 10 { 48 + d } else { 87 + d }
-}
-
-// Two digits for each byte, at the start of the text. It answers how many digits there are.
-fn put_hex(s: &[u8], text: &mut [u8]) -> usize
-    requires { ⌜ 2 * length (now s) ≤ length (now text) ⌝ }
-    ensures { λ r. ⌜ r ≡ 2 * length (now (s .entry)) ⌝ }
-    ensures { λ r. ⌜ take r (now (text .exit)) ≡ hexOf (now (s .entry)) ⌝ }
-{
-    let mut i = 0;
-    let mut end = 0;
-    while i < s.len() {
-        let b = s[i];
-        text[end] = hex_digit(b / 16);
-        text[end + 1] = hex_digit(b % 16);
-        end += 2;
-        i += 1;
-    }
-    end
-}
-
 fn print_hex(s: &[u8])
     requires { ⌜ length (now s) ≤ 1024 ⌝ }
 {
     let mut text = [0u8; TEXT];
-    let n = put_hex(s, &mut text);
+    let n = numerals::put_hex(s, &mut text, 0);
     io::write_all(STDOUT_FILENO, &text[..n]);
 }
 
@@ -174,21 +146,13 @@ fn take_piece(course: Course, piece: &[u8], out: &mut [u8]) -> Course
     }
 }
 
-// Reads a piece, and says how many bytes it has: none at the input's end.
-fn read_piece(piece: &mut [u8]) -> usize
-    ensures { λ r. ⌜ r ≤ length (now (piece .entry)) ⌝ }
-{
-    let got = libc::read(STDIN_FILENO, piece);
-    io::count(got, piece)
-}
-
 fn run(piece: &mut [u8], out: &mut [u8]) -> Course
     requires { ⌜ length (now out) ≤ 1024 ⌝ }
 {
     let mut course = start(out);
     let mut turns = u64::MAX;
     while turns > 0 {
-        let n = read_piece(piece);
+        let n = input::read_piece(piece);
         if n == 0 {
             break;
         }
@@ -208,16 +172,17 @@ fn finish(session: Session) -> Outcome {
     last.outcome()
 }
 
+fn print(name: &[u8], value: u64) {
+    io::write_all(STDOUT_FILENO, name);
+    io::print_decimal(STDOUT_FILENO, value);
+}
+
 fn print_end(course: Course) {
     let numbers = numbers_of(finish(course.session));
-    io::write_all(STDOUT_FILENO, b"\nend ");
-    io::print_decimal(STDOUT_FILENO, numbers.number as u64);
-    io::write_all(STDOUT_FILENO, b" ");
-    io::print_decimal(STDOUT_FILENO, numbers.status as u64);
-    io::write_all(STDOUT_FILENO, b" used ");
-    io::print_decimal(STDOUT_FILENO, course.used);
-    io::write_all(STDOUT_FILENO, b"\nrest ");
-    io::print_decimal(STDOUT_FILENO, course.rest);
+    print(b"\nend ", numbers.number as u64);
+    print(b" ", numbers.status as u64);
+    print(b" used ", course.used);
+    print(b"\nrest ", course.rest);
     io::write_all(STDOUT_FILENO, b"\n");
 }
 

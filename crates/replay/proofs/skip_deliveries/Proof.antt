@@ -1,7 +1,7 @@
-use borrow.Author.Needs.{needs}
-use Rattle.cases.specs.Inputs.{Unread}
 use lib.ListN.{length}
 use mathlib.Core.Path.{_≡_}
+use Rattle.input.specs.Inputs.{Unread}
+use borrow.Author.Needs.{needs}
 use Rattle.replay.proofs.skip_deliveries.Statement.{statement}
 use Rattle.replay.proofs.skip_deliveries.Tie as tie
 
@@ -14,23 +14,8 @@ abbrev μ-loop : tie.MeasureT-loop
 loop-holds : tie.Need-loop-holds Inv-loop μ-loop
 loop-holds c = search needs
 
-want-requires : tie.Need-want-requires Inv-loop μ-loop
-want-requires c κs = search needs
-
-sub-delivery-size : tie.Need-sub-delivery-size Inv-loop μ-loop
-sub-delivery-size c = search needs
-
-part-delivery-size-start : tie.Need-part-delivery-size-start Inv-loop μ-loop
-part-delivery-size-start c = search needs
-
-part-delivery-size-end : tie.Need-part-delivery-size-end Inv-loop μ-loop
-part-delivery-size-end c = search needs
-
-delivery-size-requires : tie.Need-delivery-size-requires Inv-loop μ-loop
-delivery-size-requires c κs = search needs
-
-sub-if1 : tie.Need-sub-if1 Inv-loop μ-loop
-sub-if1 c = search needs
+want-delivery-requires : tie.Need-want-delivery-requires Inv-loop μ-loop
+want-delivery-requires c κs = search needs
 
 same-length : tie.Need-same-length Inv-loop μ-loop
 same-length c = search needs
@@ -63,12 +48,7 @@ skip-deliveries-spec =
     Inv-loop
     μ-loop
     loop-holds
-    want-requires
-    sub-delivery-size
-    part-delivery-size-start
-    part-delivery-size-end
-    delivery-size-requires
-    sub-if1
+    want-delivery-requires
     same-length
     returns
     past-requires

@@ -1,4 +1,4 @@
-use Rattle.texts.proofs.Laws.{two, then}
+use Rattle.numerals.proofs.Laws.{two, then}
 use lib.Seq.{length-take-le}
 use mathlib.Core.Path.{sym, _∙_}
 use lib.ListN.{length-set}

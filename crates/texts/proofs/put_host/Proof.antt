@@ -1,4 +1,4 @@
-use Rattle.texts.proofs.Laws.{one}
+use Rattle.numerals.proofs.Laws.{one}
 use borrow.Author.Tests.{eq-eqb, ne-eqb}
 use Rattle.texts.proofs.Laws.{strip-short}
 use lib.ListN.{length}

@@ -1,17 +1,8 @@
-use mathlib.Core.Path.{_≡_}
-use Prim.Native.Nat.{_+_, _-_}
-use native.Mathlib.Omega.{arith}
-use Rattle.texts.specs.Lines.{lineAt}
-use Rattle.texts.proofs.Laws.{one, then}
+use Rattle.texts.specs.Lines.{lineOf}
+use Rattle.numerals.proofs.Laws.{one, then}
 use borrow.Author.Needs.{needs}
 use Rattle.texts.proofs.put_line.Statement.{statement}
 use Rattle.texts.proofs.put_line.Tie as tie
-
-add-start : tie.Need-add-start
-add-start c = search needs
-
-add-stop : tie.Need-add-stop
-add-stop c = search needs
 
 shared-slice-read-put-answer : tie.Need-shared-slice-read-put-answer
 shared-slice-read-put-answer c = search needs
@@ -38,18 +29,13 @@ same-length : tie.Need-same-length
 same-length c = search needs
 
 returns : tie.Need-returns
-unfolding lineAt
-returns c =
-    let a = c .before .before .before .before .before .before .before .before .args in
-    let n : a .from + a .n - (a .from + 3) ≡ a .n - 3 = omega arith in
-    (search needs, then (rw n at (c .before .before .put-answer .ensures .1)) (one _ _ _ (search needs)))
+unfolding lineOf
+returns c = (search needs, then (c .before .before .put-answer .ensures .1) (one _ _ _ (search needs)))
 
 pub put-line-spec : {M : Type 1} → statement M
 put-line-spec =
     tie.close
     (tie.spec
-    add-start
-    add-stop
     shared-slice-read-put-answer
     sub-put-answer
     part-put-answer-start

@@ -1,0 +1,209 @@
+// A session from its opening over its deliveries to its end.
+ghost use mathlib.Core.Path.{_≡_};
+ghost use Prim.Native.Nat.{_-_, _≤_};
+ghost use mathlib.Core.Bool.{cond};
+ghost use mathlib.Core.List.{[]};
+ghost use lib.Dec.{ltb};
+ghost use lib.ListN.{length, take};
+ghost use Rattle.course.specs.Bounds.{Keeps};
+ghost use Rattle.cases.specs.Cases.{Ordered, restOf, deliverySize};
+ghost use Rattle.course.specs.Last.{lastOf};
+ghost use Rattle.numerals.specs.Added.{Adds};
+use cases::heads;
+use cases::heads::Head;
+use lines::Line;
+use report::Results;
+use socks::Opened;
+use socks::Session;
+
+// answer: the last call's. used: by all deliveries. sent: how many bytes were kept of what all calls sent.
+pub struct Course {
+    pub session: Session,
+    pub answer: u8,
+    pub used: u64,
+    pub sent: usize,
+    pub line: Line,
+}
+
+// What is kept of a case: first the bytes sent, of which a session sends fewer in all its calls, then a byte for each delivery's answer.
+pub const SENT: usize = 8192;
+
+fn output() -> [u8; 2048]
+    ensures { λ r. ⌜ 2048 ≡ length r ⌝ }
+{
+    [0u8; 2048]
+}
+
+fn begin(s: &[u8], head: Head, out: &mut [u8]) -> Opened
+    requires { ⌜ (Ordered head) × ((head .count ≤ 8) × (head .size ≤ length (now s))) ⌝ }
+    ensures { λ r. ⌜ r .sent ≤ length (now (out .exit)) ⌝ }
+{
+    let flags = heads::byte_at(s, 1);
+    let config = heads::config_of(flags);
+    let port = heads::port_of(flags, heads::number_at(s, 2));
+    let list = heads::records_at(s, head.password + 1, head.count);
+    let host = 8;
+    let host_end = head.host;
+    if heads::byte_at(s, 0) == 4 {
+        return owned_records::open4(
+            config.local_dns,
+            &s[host..host_end],
+            port,
+            list,
+            head.count,
+            out,
+        );
+    }
+    let user = host_end + 2;
+    let user_end = head.user;
+    let password = user_end + 2;
+    let password_end = head.password;
+    owned_records::open5(
+        config,
+        &s[host..host_end],
+        port,
+        &s[user..user_end],
+        &s[password..password_end],
+        list,
+        head.count,
+        out,
+    )
+}
+
+// The first n bytes of an output behind those that are kept of what was sent, if there is room.
+fn keep_sent(out: &[u8], n: usize, kept: &mut [u8], at: usize) -> usize
+    requires { ⌜ (n ≤ length (now out)) × ((at ≤ 8192) × (8192 ≤ length (now kept))) ⌝ }
+    ensures { λ r. ⌜ r ≤ 8192 ⌝ }
+    ensures { λ r. ⌜ Adds (now (kept .entry)) at (cond (ltb (8192 - at) n) [] (take n (now (out .entry)))) r (now (kept .exit)) ⌝ }
+{
+    if SENT - at < n {
+        return at;
+    }
+    report::put_bytes(&out[..n], kept, at)
+}
+
+// The opening of a case with all of an output.
+fn open(s: &[u8], head: Head, line: Line, out: &mut [u8], kept: &mut [u8]) -> Course
+    requires { ⌜ (Ordered head) × ((head .count ≤ 8) × ((head .size ≤ length (now s)) × (8192 ≤ length (now kept)))) ⌝ }
+    ensures { λ r. ⌜ (r .line ≡ line) × (r .sent ≤ 8192) ⌝ }
+{
+    let opened = begin(s, head, out);
+    let answer = opened.answer;
+    let session = opened.session;
+    Course {
+        session,
+        answer: report::answer_number(answer),
+        used: 0,
+        sent: keep_sent(out, opened.sent, kept, 0),
+        line,
+    }
+}
+
+// The opening of a case, whose output is lent as far as the case says.
+pub fn start(s: &[u8], head: Head, line: Line, kept: &mut [u8]) -> Course
+    requires { ⌜ (Ordered head) × ((head .count ≤ 8) × ((head .size ≤ length (now s)) × (8192 ≤ length (now kept)))) ⌝ }
+    ensures { λ r. ⌜ (r .line ≡ line) × (r .sent ≤ 8192) ⌝ }
+{
+    let mut out = output();
+    let n = heads::lent(heads::number_at(s, 4));
+    open(s, head, line, &mut out[..n], kept)
+}
+
+// What a delivery leaves of its piece. If it is lent less output than a delivery asks, that is nothing.
+fn rest_of(piece: &[u8], lent: usize, used: usize) -> &[u8]
+    ensures { λ r. ⌜ now r ≡ restOf lent (now (piece .entry)) used ⌝ }
+{
+    if lent < 262 {
+        return &piece[..0];
+    }
+    socks::rest(piece, used)
+}
+
+// A piece is delivered with all of an output.
+fn deliver(course: Course, piece: &[u8], out: &mut [u8], kept: &mut [u8], text: &mut [u8]) -> Course
+    requires { ⌜ (Keeps course (length (now text))) × ((length (now piece) ≤ 65535) × ((8192 ≤ length (now kept)) × (131072 ≤ length (now text)))) ⌝ }
+    ensures { λ r. ⌜ Keeps r (length (now (text .entry))) ⌝ }
+{
+    let before = course.session;
+    let line = course.line;
+    let delivered = before.deliver(piece, out);
+    let answer = delivered.answer;
+    let session = delivered.session;
+    let used = delivered.used;
+    Course {
+        session,
+        answer: report::answer_number(answer),
+        used: std::num::wrapping_add_u64(course.used, used as u64),
+        sent: keep_sent(out, delivered.sent, kept, course.sent),
+        line: lines::put_rest(line, rest_of(piece, out.len(), used), text),
+    }
+}
+
+// The delivery that a case has at a place.
+pub fn take_delivery(course: Course, s: &[u8], kept: &mut [u8], text: &mut [u8]) -> Course
+    requires { ⌜ (Keeps course (length (now text))) × ((deliverySize (now s) ≤ length (now s)) × ((8192 ≤ length (now kept)) × (131072 ≤ length (now text)))) ⌝ }
+    ensures { λ r. ⌜ Keeps r (length (now (text .entry))) ⌝ }
+{
+    let mut out = output();
+    let n = heads::lent(heads::number_at(s, 0));
+    let from = 4;
+    let to = heads::delivery_size(s);
+    deliver(course, &s[from..to], &mut out[..n], kept, text)
+}
+
+// The last session and, if the stream ends, what that call answers.
+struct Last {
+    session: Session,
+    ended: bool,
+    answer: u8,
+}
+
+fn last_of(session: Session, ends: bool) -> Last
+    ensures { λ r. ⌜ r ≡ lastOf session ends ⌝ }
+{
+    if !ends {
+        return Last {
+            session,
+            ended: false,
+            answer: 0,
+        };
+    }
+    let ended = session.end();
+    let answer = ended.answer;
+    let last = ended.session;
+    Last {
+        session: last,
+        ended: true,
+        answer: report::answer_number(answer),
+    }
+}
+
+// The line of a whole case of so many deliveries.
+pub fn finish(
+    course: Course,
+    opened: u8,
+    ends: bool,
+    count: usize,
+    kept: &[u8],
+    text: &mut [u8],
+) -> usize
+    requires { ⌜ (Keeps course (length (now text))) × ((count ≤ 65535) × ((73727 ≤ length (now kept)) × (300000 ≤ length (now text)))) ⌝ }
+    ensures { λ r. ⌜ r ≤ length (now (text .entry)) ⌝ }
+{
+    let session = course.session;
+    let line = course.line;
+    let last = last_of(session, ends);
+    let end = last.session;
+    let outcome = end.outcome();
+    let results = Results {
+        outcome,
+        used: course.used,
+        opened,
+        ended: last.ended,
+        answer: last.answer,
+    };
+    let sent = course.sent;
+    let first = SENT;
+    let stop = SENT + count;
+    lines::put_line(line, results, &kept[first..stop], &kept[..sent], text)
+}

@@ -1,0 +1,2 @@
+mod Moved
+pub mod Laws

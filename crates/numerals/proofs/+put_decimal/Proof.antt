@@ -1,0 +1,77 @@
+-- The measure is the number.
+use Prim.Native.Nat.{ℕ, _<_}
+use mathlib.Core.Path.{ap}
+use native.Mathlib.Omega.{arith}
+use lib.ListN.{length}
+use borrow.Author.Needs.{needs}
+use borrow.Fn.Kinds.{In}
+use borrow.Fn.PlainCycle.{Measures, is, falls, and}
+use Rattle.numerals.proofs.Laws.{then, one-digit, last-digit, one-more}
+use Rattle.numerals.proofs.put_decimal.Reads as own
+use Rattle.numerals.proofs.put_decimal.Kinds as kinds
+use Rattle.numerals.proofs.+put_decimal.Lts-put_decimal as lts
+use Rattle.numerals.proofs.put_digit.Reads as digit
+use Rattle.numerals.proofs.+put_decimal.{statement}
+use Rattle.numerals.proofs.+put_decimal.Tie.{close}
+
+abbrev μ : Measures 1 kinds.ps ℕ
+μ κs a = a .0
+
+abbrev at : ℕ → In 1 kinds.ps
+at t = and 1 kinds.ps (is 1 kinds.ps μ t) own.Pre
+
+abbrev below : ℕ → In 1 kinds.ps
+below t = and 1 kinds.ps (falls 1 kinds.ps _<_ μ t) own.Pre
+
+module _ (t : ℕ) where
+  cast-put-digit : lts.Need-cast-put-digit (digit.Asked, digit.Learnt, below t, own.Post) (at t) own.Post
+  cast-put-digit c = omega arith
+
+  put-digit-requires : lts.Need-put-digit-requires (digit.Asked, digit.Learnt, below t, own.Post) (at t) own.Post
+  put-digit-requires c κs =
+      let e = ap length (one-digit (c .before .before .before .args .n) (c .before .if1 .taken)) in
+      (omega arith, omega arith)
+
+  same-length : lts.Need-same-length (digit.Asked, digit.Learnt, below t, own.Post) (at t) own.Post
+  same-length c = search needs
+
+  returns : lts.Need-returns (digit.Asked, digit.Learnt, below t, own.Post) (at t) own.Post
+  returns c =
+      let b = c .before .before .before .before in
+      rw (one-digit (b .before .before .args .n) (b .if1 .taken)) (c .before .before .put-digit .ensures)
+
+  put-decimal-requires : lts.Need-put-decimal-requires (digit.Asked, digit.Learnt, below t, own.Post) (at t) own.Post
+  put-decimal-requires c κs =
+      let b = c .before .before .before in
+      let e = one-more (b .args .n) (omega arith) (c .before .if1 .left) in
+      (omega arith, omega arith)
+
+  cast-put-digit-2 : lts.Need-cast-put-digit-2 (digit.Asked, digit.Learnt, below t, own.Post) (at t) own.Post
+  cast-put-digit-2 c = omega arith
+
+  put-digit-requires-2 : lts.Need-put-digit-requires-2 (digit.Asked, digit.Learnt, below t, own.Post) (at t) own.Post
+  put-digit-requires-2 c κs =
+      let b = c .before .before .before .before .before in
+      let e = one-more (b .before .before .args .n) (omega arith) (b .if1 .left) in
+      (omega arith, omega arith)
+
+  same-length-2 : lts.Need-same-length-2 (digit.Asked, digit.Learnt, below t, own.Post) (at t) own.Post
+  same-length-2 c = search needs
+
+  returns-2 : lts.Need-returns-2 (digit.Asked, digit.Learnt, below t, own.Post) (at t) own.Post
+  returns-2 c =
+      let b = c .before .before .before .before .before .before .before .before in
+      rw (last-digit (b .before .before .args .n) (omega arith) (b .if1 .left)) (then (c .before .before .before .before .before .before .put-decimal .ensures) (c .before .before .put-digit2 .ensures))
+
+pub +put-decimal-spec : {M : Type 1} → statement M
++put-decimal-spec =
+    close μ λ t. lts.spec (digit.Asked, digit.Learnt, below t, own.Post) (at t) own.Post
+    (cast-put-digit t)
+    (put-digit-requires t)
+    (same-length t)
+    (returns t)
+    (put-decimal-requires t)
+    (cast-put-digit-2 t)
+    (put-digit-requires-2 t)
+    (same-length-2 t)
+    (returns-2 t)
