@@ -73,7 +73,7 @@ fn first_difference(replay: &str, cases: &[Case], planted: bool) -> Option<usize
 
 #[derive(Default)]
 struct Figures {
-    domain: usize,
+    told: usize,
     overflows: usize,
     single: usize,
     bytes: usize,
@@ -86,9 +86,8 @@ impl Figures {
     fn add(&mut self, case: &Case, line: &Line) {
         let asked = model::delivery_asks(case);
         let single = case.deliveries.iter().all(|d| lent(d.lent) < asked || d.piece.len() <= 1);
-        let domain = rust::in_domain(case);
-        let overflows = domain && rust::in_pieces(case).is_some_and(|told| told.overflows());
-        self.domain += usize::from(domain && !overflows);
+        let overflows = rust::overflows(case);
+        self.told += usize::from(rust::in_domain(case) && !overflows);
         self.overflows += usize::from(overflows);
         self.single += usize::from(single);
         self.bytes += case.bytes().len();
@@ -108,7 +107,7 @@ impl Figures {
         format!(
             "{} told by the Rust too, {} by the model alone where the Rust ends with WouldOverflow\n\
             {} in pieces of one byte, {} bytes in all, at most {} sent over v5\noutcomes: {}\nstatuses: {}",
-            self.domain,
+            self.told,
             self.overflows,
             self.single,
             self.bytes,

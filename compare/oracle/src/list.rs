@@ -2,7 +2,7 @@
 use crate::case::*;
 use crate::draw::EDGES;
 use crate::expect::expect;
-use crate::{generate, model};
+use crate::{generate, model, rust};
 use std::collections::{BTreeMap, HashSet};
 use std::fs;
 
@@ -484,7 +484,9 @@ pub fn write(dir: &str) -> Result<(), String> {
     base(5).write(&mut stdin);
     let saved = fs::create_dir_all(dir).and_then(|()| fs::write(format!("{dir}/stdin"), &stdin));
     saved.and_then(|()| fs::write(format!("{dir}/stdout"), &stdout)).map_err(|e| format!("{dir}: {e}"))?;
-    println!("{} cases, {} bytes, answers {} bytes; outcome and status:", cases.len(), stdin.len(), stdout.len());
+    let overflows = cases.iter().filter(|case| rust::overflows(case)).count();
+    println!("{} cases, {} bytes, answers {} bytes", cases.len(), stdin.len(), stdout.len());
+    println!("{overflows} that the Rust ends with WouldOverflow; outcome and status:");
     println!("{}", held.iter().map(|(what, n)| format!("{what}: {n}")).collect::<Vec<_>>().join(", "));
     Ok(())
 }

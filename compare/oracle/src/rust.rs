@@ -112,6 +112,11 @@ pub fn in_bytes(case: &Case) -> Option<Told> {
     run(case, &bytes)
 }
 
+// A case of the domain that the original ends with `WouldOverflow`.
+pub fn overflows(case: &Case) -> bool {
+    in_domain(case) && in_pieces(case).is_some_and(|told| told.overflows())
+}
+
 // Document 01's domain of the comparison, for openings that lend enough.
 pub fn in_domain(case: &Case) -> bool {
     let host = model::strip(&case.host);
