@@ -73,19 +73,25 @@ fn first_difference(replay: &str, cases: &[Case], planted: bool) -> Option<usize
 
 #[derive(Default)]
 struct Figures {
-    domain: usize,
+    told: usize,
+    overflows: usize,
     single: usize,
     bytes: usize,
+    most_sent: usize,
     outcomes: BTreeMap<Option<u8>, usize>,
     statuses: BTreeMap<u8, usize>,
 }
 
 impl Figures {
     fn add(&mut self, case: &Case, line: &Line) {
-        let single = case.deliveries.iter().all(|d| lent(d.lent) < 262 || d.piece.len() <= 1);
-        self.domain += usize::from(rust::in_domain(case));
+        let asked = model::delivery_asks(case);
+        let single = case.deliveries.iter().all(|d| lent(d.lent) < asked || d.piece.len() <= 1);
+        let overflows = rust::overflows(case);
+        self.told += usize::from(rust::in_domain(case) && !overflows);
+        self.overflows += usize::from(overflows);
         self.single += usize::from(single);
         self.bytes += case.bytes().len();
+        self.most_sent = self.most_sent.max(if case.version == 5 { line.sent.len() } else { 0 });
         *self.outcomes.entry(line.outcome).or_default() += 1;
         if line.status != 0 {
             *self.statuses.entry(line.status).or_default() += 1;
@@ -99,10 +105,13 @@ impl Figures {
         });
         let statuses = self.statuses.iter().map(|(n, count)| format!("{n}: {count}"));
         format!(
-            "{} told by the Rust too, {} in pieces of one byte, {} bytes in all\noutcomes: {}\nstatuses: {}",
-            self.domain,
+            "{} told by the Rust too, {} by the model alone where the Rust ends with WouldOverflow\n\
+            {} in pieces of one byte, {} bytes in all, at most {} sent over v5\noutcomes: {}\nstatuses: {}",
+            self.told,
+            self.overflows,
             self.single,
             self.bytes,
+            self.most_sent,
             outcomes.collect::<Vec<_>>().join(", "),
             statuses.collect::<Vec<_>>().join(", ")
         )

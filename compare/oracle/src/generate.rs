@@ -3,33 +3,40 @@ use crate::case::*;
 use crate::draw::{EDGES, Random};
 use crate::model;
 
-const LENT: [u16; 8] = [262, 263, 1024, 1025, 2047, 2048, 2049, 65535];
-const SHORT: [u16; 6] = [0, 1, 100, 260, 261, 261];
+// Output lent, enough and too little: to any v5 call, to a v4 opening, to a v4 delivery.
+const CALL5: Lent = (&[778, 778, 779, 1024, 1025, 2047, 2048, 2049, 65535], &[0, 1, 261, 262, 263, 776, 777, 777]);
+const OPENING4: Lent = (&[1024, 1025, 2047, 2048, 2049, 65535], &[0, 262, 777, 778, 1022, 1023, 1023]);
+const DELIVERY4: Lent = (&[262, 262, 263, 777, 778, 1024, 2047, 2048, 2049, 65535], &[0, 1, 100, 260, 261, 261]);
 const NAMES: [usize; 18] = [0, 1, 2, 3, 11, 50, 100, 200, 251, 252, 253, 254, 255, 256, 257, 257, 300, 1000];
 const LONG_NAMES: [usize; 6] = [1013, 1014, 1015, 1016, 1017, 5000];
 const CREDENTIALS_OF: [usize; 20] =
     [0, 0, 1, 2, 3, 8, 20, 120, 121, 122, 123, 124, 125, 130, 246, 247, 253, 254, 255, 256];
 
+type Lent = (&'static [u16], &'static [u16]);
+
 pub fn case(seed: u64, number: u64) -> Case {
     let mut r = Random::new(seed, number);
     let mut case = opening(&mut r);
     if case.has(CREDENTIALS) && r.once_in(3) {
-        near_the_limit(&mut r, &mut case);
+        near_its_buffer(&mut r, &mut case);
+    } else if case.version == 5 && r.once_in(16) {
+        at_their_longest(&mut r, &mut case);
     }
     let stream = stream(&mut r, &case);
-    case.deliveries = deliveries(&mut r, stream);
+    let lent = if case.version == 4 { DELIVERY4 } else { CALL5 };
+    case.deliveries = deliveries(&mut r, lent, stream);
     case
 }
 
 fn opening(r: &mut Random) -> Case {
     let version = if r.once_in(3) { 4 } else { 5 };
-    let enough = if version == 4 { &LENT[2..] } else { &LENT };
+    let (enough, short) = if version == 4 { OPENING4 } else { CALL5 };
     let n = r.one_of(&[0, 1, 1, 2, 3, 5, 7, 8]);
     Case {
         version,
         flags: flags(r),
         port: r.one_of(&[0, 1, 80, 255, 256, 443, 443, 65535]),
-        lent: if r.once_in(30) { r.one_of(&[0, 1, 261, 262, 1022, 1023]) } else { r.one_of(enough) },
+        lent: if r.once_in(30) { r.one_of(short) } else { r.one_of(enough) },
         host: host(r, version),
         user: credential(r),
         password: credential(r),
@@ -106,8 +113,8 @@ fn credential(r: &mut Random) -> Vec<u8> {
     }
 }
 
-// All requests together at the send limit, or a little below or above.
-fn near_the_limit(r: &mut Random, case: &mut Case) {
+// All requests together as long as the original's send buffer, or a little below or above.
+fn near_its_buffer(r: &mut Random, case: &mut Case) {
     let others = 3 + 3 + model::connect(case).len();
     let wanted = r.one_of(&[260usize, 261, 262, 262, 263, 263, 264, 265]);
     let Some(most) = wanted.checked_sub(others) else {
@@ -116,6 +123,14 @@ fn near_the_limit(r: &mut Random, case: &mut Case) {
     let user = r.below(most + 1).min(255);
     case.user = r.utf8(user);
     case.password = r.utf8((most - user).min(255));
+}
+
+// A name, a user and a password of 255 bytes, or a few less.
+fn at_their_longest(r: &mut Random, case: &mut Case) {
+    let [name, user, password] = [(); 3].map(|()| r.one_of(&[252, 253, 254, 254, 255, 255, 255]));
+    case.host = r.text(name, b"abcxyz0129-._");
+    case.user = r.utf8(user);
+    case.password = r.utf8(password);
 }
 
 // ---- what the proxy sends
@@ -215,27 +230,27 @@ fn cuts(r: &mut Random, mut stream: Vec<u8>) -> Vec<Vec<u8>> {
     pieces
 }
 
-fn deliveries(r: &mut Random, stream: Vec<u8>) -> Vec<Delivery> {
+fn deliveries(r: &mut Random, lent: Lent, stream: Vec<u8>) -> Vec<Delivery> {
     let noisy = r.once_in(4);
     let mut all = vec![];
     for piece in cuts(r, stream) {
         if noisy && r.once_in(3) {
-            all.push(noise(r, &piece));
+            all.push(noise(r, lent, &piece));
         }
-        all.push(Delivery { lent: r.one_of(&LENT), piece });
+        all.push(Delivery { lent: r.one_of(lent.0), piece });
     }
     if noisy {
-        all.push(noise(r, b"more"));
+        all.push(noise(r, lent, b"more"));
     }
     all
 }
 
 // An empty piece, or one that comes with too little output: the next one tried before, or another.
-fn noise(r: &mut Random, piece: &[u8]) -> Delivery {
+fn noise(r: &mut Random, (enough, short): Lent, piece: &[u8]) -> Delivery {
     match r.below(4) {
-        0 => Delivery { lent: r.one_of(&LENT), piece: vec![] },
-        1 => Delivery { lent: r.one_of(&SHORT), piece: vec![] },
-        2 => Delivery { lent: r.one_of(&SHORT), piece: piece.to_vec() },
-        _ => Delivery { lent: r.one_of(&SHORT), piece: r.some_bytes(20) },
+        0 => Delivery { lent: r.one_of(enough), piece: vec![] },
+        1 => Delivery { lent: r.one_of(short), piece: vec![] },
+        2 => Delivery { lent: r.one_of(short), piece: piece.to_vec() },
+        _ => Delivery { lent: r.one_of(short), piece: r.some_bytes(20) },
     }
 }

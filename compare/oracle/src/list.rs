@@ -2,11 +2,11 @@
 use crate::case::*;
 use crate::draw::EDGES;
 use crate::expect::expect;
-use crate::{generate, model};
+use crate::{generate, model, rust};
 use std::collections::{BTreeMap, HashSet};
 use std::fs;
 
-const CASES: usize = 2200;
+const CASES: usize = 2300;
 // Random cases fill the list up, as far as they are small.
 const SMALL: usize = 500;
 
@@ -98,6 +98,11 @@ fn good(case: &Case) -> Vec<u8> {
     }
 }
 
+// The output that its opening and its deliveries ask.
+fn asked(case: &Case) -> (u16, u16) {
+    (model::opening_asks(case) as u16, model::delivery_asks(case) as u16)
+}
+
 fn served(case: Case) -> Case {
     let replies = good(&case);
     case.piece(&replies)
@@ -111,7 +116,9 @@ fn refusals(list: &mut List) {
     for version in [5, 4] {
         for host in hosts {
             for rest in (0..16).filter(|rest| version == 5 || rest & 4 == 0) {
-                let mut case = base(version).host(host).lent(if rest & 1 == 0 { 2048 } else { 261 });
+                let mut case = base(version).host(host);
+                let (opening, delivery) = asked(&case);
+                case.lent = opening - (rest & 1);
                 if rest & 2 != 0 {
                     case.flags &= !PORT;
                 }
@@ -124,7 +131,7 @@ fn refusals(list: &mut List) {
                 if rest % 3 == 0 {
                     case = case.flag(END);
                 }
-                list.add(case.piece(&[5, 0]).piece_lent(100, b"lost"));
+                list.add(case.piece_lent(delivery, &[5, 0]).piece_lent(delivery - 1, b"lost"));
             }
         }
     }
@@ -132,7 +139,7 @@ fn refusals(list: &mut List) {
 
 fn outputs(list: &mut List) {
     for version in [5, 4] {
-        for n in [0, 1, 261, 262, 263, 1023, 1024, 1025, 2047, 2048, 2049, 65535] {
+        for n in [0, 1, 261, 262, 263, 777, 778, 779, 1023, 1024, 1025, 2047, 2048, 2049, 65535] {
             list.add(served(base(version).lent(n)));
             list.add(served(base(version).lent(n).host(&[b'n'; 1014])));
             list.add(served(base(version).lent(n).host(b"1.2.3.4").credentials(123, 123).flag(OPTIMISTIC)));
@@ -193,7 +200,7 @@ fn credential_lengths(list: &mut List) {
             list.add(base(5).host(b"1.2.3.4").credentials(password, user).flag(OPTIMISTIC).piece(&[5, 2, 1, 0]));
         }
     }
-    // all requests together at the limit, for each kind of destination
+    // all requests together as long as the original's send buffer, for each kind of destination
     let name = |n| "n".repeat(n);
     let hosts =
         [("1.2.3.4".into(), 246), ("::1".into(), 234), (name(1), 248), (name(200), 49), (name(249), 0), (name(250), 0)];
@@ -212,6 +219,32 @@ fn credential_lengths(list: &mut List) {
     // not UTF-8: no Rust string, lawful here
     case.user = EDGES.to_vec();
     list.add(served(case));
+}
+
+// The longest requests, plainly and all at once, with no more output than is asked.
+fn long_requests(list: &mut List) {
+    for flags in [0, OPTIMISTIC] {
+        for name in 252..=255 {
+            let case = base(5).host(&vec![b'n'; name]).credentials(255, 255).flag(flags).lent(778);
+            let replies = good(&case);
+            list.add(case.piece_lent(778, &replies));
+        }
+        for host in ["1.2.3.4", "::1", "a"] {
+            list.add(served(base(5).host(host.as_bytes()).credentials(255, 255).flag(flags).lent(778)));
+        }
+        let most = base(5).host(&[b'n'; 255]).credentials(255, 255).flag(flags).lent(778);
+        let replies = good(&most);
+        list.add(served(most.clone().lent(777)));
+        list.add(most.clone().piece_lent(777, &replies).piece_lent(778, &replies).piece_lent(777, b"xy").flag(END));
+        list.add(most.clone().each_byte(&replies).piece_lent(778, b"xy"));
+        for n in [0, 2, 4, 11] {
+            list.add(most.clone().piece_lent(778, &replies[..n]).flag(END));
+        }
+        let refused = [5, 2, 1, 0, 5, 5, 0, 1, 0, 0, 0, 0, 0, 0];
+        for reply in [&[5, 0xFF][..], &[5, 0], &[5, 2, 0, 0], &[5, 2, 1, 7], &refused] {
+            list.add(most.clone().piece_lent(778, reply));
+        }
+    }
 }
 
 fn ports(list: &mut List) {
@@ -348,8 +381,9 @@ fn pieces(list: &mut List) {
             list.add(case.clone().piece(before).flag(END));
             list.add(case.clone().piece(before).piece(behind));
             if n % 3 == 0 {
-                let tried = case.clone().piece(before).piece(b"").piece_lent(261, behind);
-                list.add(tried.piece_lent(262, behind).piece_lent(0, b"").flag(END));
+                let (_, asked) = asked(&case);
+                let tried = case.clone().piece(before).piece(b"").piece_lent(asked - 1, behind);
+                list.add(tried.piece_lent(asked, behind).piece_lent(0, b"").flag(END));
             }
         }
         list.add(case.each_byte(&stream));
@@ -374,7 +408,7 @@ fn long_pieces(list: &mut List) {
     list.add(base(4).piece(&[4; 2000]));
 }
 
-// Document 01's bench sheet, and its own slips.
+// Document 01's bench sheet, and its own slips; the name of request F-4.
 fn bench(list: &mut List) {
     list.add(base(5).host(b"[2001:db8::1]").piece(&[5, 0]));
     for host in [&b"["[..], b"01.2.3.4", b"1:2:3:4:5:6:7::", b"1:2:3:4:5:6:7:8::", b"1.2.3.4::"] {
@@ -384,6 +418,10 @@ fn bench(list: &mut List) {
     list.add(base(5).host(&[b'n'; 253]).piece(&[5, 0]));
     for sum in [246, 247] {
         list.add(base(5).host(b"192.0.2.7").credentials(sum - 100, 100).piece(&[5, 2, 1, 0]));
+    }
+    list.add(served(base(5).host(&[b'n'; 254])));
+    for flags in [0, OPTIMISTIC] {
+        list.add(served(base(5).host(&[b'n'; 254]).credentials(255, 255).flag(flags)));
     }
     for reply in [&[5, 2][..], &[5, 0xFF], &[5, 1], &[5, 0, 5, 5, 0, 9], &[5, 0, 5, 5, 0, 9, 0], &[5, 0, 5, 0, 0, 3, 0]]
     {
@@ -407,6 +445,7 @@ fn cases() -> Vec<Case> {
         host_texts,
         name_lengths,
         credential_lengths,
+        long_requests,
         ports,
         lookups,
         method_replies,
@@ -445,7 +484,9 @@ pub fn write(dir: &str) -> Result<(), String> {
     base(5).write(&mut stdin);
     let saved = fs::create_dir_all(dir).and_then(|()| fs::write(format!("{dir}/stdin"), &stdin));
     saved.and_then(|()| fs::write(format!("{dir}/stdout"), &stdout)).map_err(|e| format!("{dir}: {e}"))?;
-    println!("{} cases, {} bytes, answers {} bytes; outcome and status:", cases.len(), stdin.len(), stdout.len());
+    let overflows = cases.iter().filter(|case| rust::overflows(case)).count();
+    println!("{} cases, {} bytes, answers {} bytes", cases.len(), stdin.len(), stdout.len());
+    println!("{overflows} that the Rust ends with WouldOverflow; outcome and status:");
     println!("{}", held.iter().map(|(what, n)| format!("{what}: {n}")).collect::<Vec<_>>().join(", "));
     Ok(())
 }

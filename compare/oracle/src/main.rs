@@ -1,4 +1,4 @@
-//! Holds the Rust original, document 01's model and the program `replay` together; see the usage below.
+//! Holds the Rust original, the model and the program `replay` together; see the usage below.
 use std::io::Read;
 use std::process::ExitCode;
 use std::time::Instant;

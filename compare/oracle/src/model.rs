@@ -1,4 +1,5 @@
-//! Document 01 in plain Rust: what a case must answer, field by field. Written from its words, not from the original.
+//! Document 01 with request F-4 in plain Rust: what a case must answer, field by field. Written from their words, not
+//! from the original.
 use crate::case::*;
 use std::net::IpAddr;
 
@@ -50,13 +51,26 @@ fn looked_up(case: &Case) -> Option<IpAddr> {
     case.records.iter().map(address).find(|ip| case.version == 5 || ip.is_ipv4())
 }
 
+// ---- the output that a call asks
+
+// The longest requests of a v5 opening: greeting, credentials, connect.
+const OUTPUT5: usize = 3 + 513 + 262;
+
+pub fn opening_asks(case: &Case) -> usize {
+    if case.version == 5 { OUTPUT5 } else { 1024 }
+}
+
+pub fn delivery_asks(case: &Case) -> usize {
+    if case.version == 5 { OUTPUT5 } else { 262 }
+}
+
 // ---- Opening v5, Opening v4: the number of the first check that refuses, else 0
 
 fn check(case: &Case) -> u8 {
     let (v5, host) = (case.version == 5, strip(&case.host));
     let text = address_text(host);
     let lookup_fails = || case.has(LOCAL_LOOKUP) && looked_up(case).is_none();
-    if lent(case.lent) < if v5 { 262 } else { 1024 } {
+    if lent(case.lent) < opening_asks(case) {
         1
     } else if host.is_empty() {
         2
@@ -213,14 +227,10 @@ struct State {
     used: usize,
 }
 
-fn machine(steps: &[Step], limit: usize, list: &[u8]) -> State {
+fn machine(steps: &[Step], list: &[u8]) -> State {
     let mut now = State { sent: vec![], outcome: None, status: 0, used: 0 };
     for step in steps {
         match step {
-            Step::Send(request) if now.sent.len() + request.len() > limit => {
-                now.outcome = Some(11);
-                return now;
-            }
             Step::Send(request) => now.sent.extend(request),
             Step::Expect(reply) => {
                 let Some((count, number, status)) = decide(reply, &list[now.used..]) else {
@@ -243,15 +253,14 @@ fn machine(steps: &[Step], limit: usize, list: &[u8]) -> State {
 
 pub fn answer(case: &Case) -> Line {
     let open = check(case);
-    let limit = if case.version == 5 { 262 } else { usize::MAX };
     let steps = if open == 0 { plan(case) } else { vec![] };
-    let mut now = machine(&steps, limit, &[]);
+    let mut now = machine(&steps, &[]);
     if open != 0 {
         now.outcome = Some(open);
     }
     let (mut joined, mut rests, mut answers) = (vec![], vec![], vec![]);
     for d in &case.deliveries {
-        let enough = lent(d.lent) >= 262;
+        let enough = lent(d.lent) >= delivery_asks(case);
         let before = now.used;
         if now.outcome.is_some() {
             answers.push(16);
@@ -260,7 +269,7 @@ pub fn answer(case: &Case) -> Line {
         } else {
             answers.push(0);
             joined.extend(&d.piece);
-            now = machine(&steps, limit, &joined);
+            now = machine(&steps, &joined);
         }
         if enough {
             rests.extend(&d.piece[now.used - before..]);

@@ -47,6 +47,13 @@ pub struct Told {
     pub taken: usize,
 }
 
+impl Told {
+    // Whether it ended with `WouldOverflow`: the next request does not fit its send buffer behind those before.
+    pub fn overflows(&self) -> bool {
+        self.outcome == Some(11)
+    }
+}
+
 fn settled<T>(done: Poll<std::result::Result<T, socks::SocksError<()>>>) -> (Option<u8>, u8) {
     match done {
         Poll::Pending => (None, 0),
@@ -88,7 +95,8 @@ fn run(case: &Case, pieces: &[&[u8]]) -> Option<Told> {
 // The pieces that reach the original: a read of no bytes would be the end of stream, and a delivery that lends
 // too little brings nothing.
 fn script(case: &Case) -> Vec<&[u8]> {
-    let brought = case.deliveries.iter().filter(|d| lent(d.lent) >= 262 && !d.piece.is_empty());
+    let asked = model::delivery_asks(case);
+    let brought = case.deliveries.iter().filter(|d| lent(d.lent) >= asked && !d.piece.is_empty());
     brought.map(|d| &d.piece[..]).collect()
 }
 
@@ -104,14 +112,19 @@ pub fn in_bytes(case: &Case) -> Option<Told> {
     run(case, &bytes)
 }
 
+// A case of the domain that the original ends with `WouldOverflow`.
+pub fn overflows(case: &Case) -> bool {
+    in_domain(case) && in_pieces(case).is_some_and(|told| told.overflows())
+}
+
 // Document 01's domain of the comparison, for openings that lend enough.
 pub fn in_domain(case: &Case) -> bool {
     let host = model::strip(&case.host);
     let lawful = |text: &[u8]| text.len() <= 255 && std::str::from_utf8(text).is_ok();
     let plain_host = !host.is_empty() && host.iter().all(|b| (0x21..=0x7E).contains(b));
     let of_version = match case.version {
-        4 => host.len() <= 1014 && lent(case.lent) >= 1024,
-        _ => lent(case.lent) >= 262 && (!case.has(CREDENTIALS) || lawful(&case.user) && lawful(&case.password)),
+        4 => host.len() <= 1014,
+        _ => !case.has(CREDENTIALS) || lawful(&case.user) && lawful(&case.password),
     };
-    plain_host && case.has(PORT) && of_version
+    plain_host && case.has(PORT) && of_version && lent(case.lent) >= model::opening_asks(case)
 }
