@@ -76,8 +76,8 @@ pub record-more : (l : List Record) (s : List ℕ) (from i : ℕ) (r : Record) �
 record-more l s from i r v h e = rw (add-one i, take-suc-set l i r h, records-more, v, e)
 
 -- a rest is no longer than its piece
-pub rest-short : (lent : ℕ) (piece : List ℕ) (used : ℕ) → length (restOf lent piece used) ≤ length piece
-rest-short lent piece used = go (ltb lent 262)
+pub rest-short : (room lent : ℕ) (piece : List ℕ) (used : ℕ) → length (restOf room lent piece used) ≤ length piece
+rest-short room lent piece used = go (ltb lent room)
   where
     go : (t : Bool) → length (cond t [] (drop used piece)) ≤ length piece
     go true = omega arith

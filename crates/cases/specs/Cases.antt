@@ -103,6 +103,10 @@ lentOf n = cond (ltb 2048 n) 2048 n
 abbrev pub deliverySize : List ℕ → ℕ
 deliverySize s = 4 + numberAt s 2
 
+-- the output that a delivery asks, by the version
+abbrev pub roomOf : ℕ → ℕ
+roomOf version = cond (eqb version 4) 262 778
+
 -- what a delivery leaves of its piece; one that lends less output than it asks has no rest
-abbrev pub restOf : ℕ → List ℕ → ℕ → List ℕ
-restOf lent piece used = cond (ltb lent 262) [] (drop used piece)
+abbrev pub restOf : ℕ → ℕ → List ℕ → ℕ → List ℕ
+restOf room lent piece used = cond (ltb lent room) [] (drop used piece)

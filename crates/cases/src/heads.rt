@@ -3,7 +3,7 @@ ghost use mathlib.Core.Path.{_≡_};
 ghost use Prim.Native.Nat.{_+_, _*_, _≤_, _<_};
 ghost use mathlib.Core.Bool.{true};
 ghost use lib.ListN.{length, getD, take, drop};
-ghost use Rattle.cases.specs.Cases.{numberAt, headOf, Ordered, isVersion, isFamily, knownFamilies, isGood, flag, configOf, portOf, ends, familyOf, recordAt, recordsAt, lentOf, deliverySize};
+ghost use Rattle.cases.specs.Cases.{numberAt, headOf, Ordered, isVersion, isFamily, knownFamilies, isGood, flag, configOf, portOf, ends, familyOf, recordAt, recordsAt, lentOf, deliverySize, roomOf};
 use protocol::Family;
 use protocol::Port;
 use protocol::Record;
@@ -199,4 +199,11 @@ pub fn delivery_size(s: &[u8]) -> usize
     ensures { λ r. ⌜ (r ≡ deliverySize (now (s .entry))) × ((4 ≤ r) × (r ≤ 65539)) ⌝ }
 {
     4 + number_at(s, 2) as usize
+}
+
+// The output that a delivery asks, by the version.
+pub fn room_of(version: u8) -> usize
+    ensures { λ r. ⌜ r ≡ roomOf version ⌝ }
+{
+    if version == 4 { 262 } else { 778 }
 }

@@ -16,9 +16,11 @@ use report::Results;
 use socks::Opened;
 use socks::Session;
 
-// answer: the last call's. used: by all deliveries. sent: how many bytes were kept of what all calls sent.
+// room: the output that its version's deliveries ask. answer: the last call's. used: by all deliveries. sent: how many bytes were
+// kept of what all calls sent.
 pub struct Course {
     pub session: Session,
+    pub room: usize,
     pub answer: u8,
     pub used: u64,
     pub sent: usize,
@@ -92,6 +94,7 @@ fn open(s: &[u8], head: Head, line: Line, out: &mut [u8], kept: &mut [u8]) -> Co
     let session = opened.session;
     Course {
         session,
+        room: heads::room_of(heads::byte_at(s, 0)),
         answer: report::answer_number(answer),
         used: 0,
         sent: keep_sent(out, opened.sent, kept, 0),
@@ -110,10 +113,10 @@ pub fn start(s: &[u8], head: Head, line: Line, kept: &mut [u8]) -> Course
 }
 
 // What a delivery leaves of its piece. If it is lent less output than a delivery asks, that is nothing.
-fn rest_of(piece: &[u8], lent: usize, used: usize) -> &[u8]
-    ensures { λ r. ⌜ now r ≡ restOf lent (now (piece .entry)) used ⌝ }
+fn rest_of(piece: &[u8], room: usize, lent: usize, used: usize) -> &[u8]
+    ensures { λ r. ⌜ now r ≡ restOf room lent (now (piece .entry)) used ⌝ }
 {
-    if lent < 262 {
+    if lent < room {
         return &piece[..0];
     }
     socks::rest(piece, used)
@@ -132,10 +135,11 @@ fn deliver(course: Course, piece: &[u8], out: &mut [u8], kept: &mut [u8], text: 
     let used = delivered.used;
     Course {
         session,
+        room: course.room,
         answer: report::answer_number(answer),
         used: std::num::wrapping_add_u64(course.used, used as u64),
         sent: keep_sent(out, delivered.sent, kept, course.sent),
-        line: lines::put_rest(line, rest_of(piece, out.len(), used), text),
+        line: lines::put_rest(line, rest_of(piece, course.room, out.len(), used), text),
     }
 }
 

@@ -1,12 +1,11 @@
 -- F-4: each request of an accepted opening keeps to its limit, so that over v5 at most 778 bytes are sent in all; and no number is 11.
 use Prim.Native.Nat.{ℕ, _+_, _≤_, _<_}
 use native.Mathlib.Omega.{arith}
-use mathlib.Core.Path.{_≡_, refl, ap, sym, _∙_}
+use mathlib.Core.Path.{_≡_, refl, ap, _∙_}
 use mathlib.Core.Logic.{_⊎_, inl, inr}
-use mathlib.Core.Option.{Option, none, some}
 use mathlib.Core.Bool.{Bool, true, false, cond}
 use mathlib.Core.List.{List, [], _∷_, _++_, List·Memᴰ, List·Memᴰ·head}
-use lib.ListN.{length, length-append, length-take}
+use lib.ListN.{length, take, drop, length-append, length-take}
 use lib.Dec.{leb}
 use borrow.Author.Tests.{leb-true, leb-false}
 use Rattle.protocol.specs.declared.AuthMethod.{AuthMethod}
@@ -14,6 +13,10 @@ use Rattle.protocol.specs.declared.AuthMethod.the-variants.{NoAuth, User
 use Rattle.protocol.specs.declared.Family.{Family}
 use Rattle.protocol.specs.declared.Family.the-variants.{Four, Six}
 use Rattle.protocol.specs.declared.Record.{Record}
+use Rattle.protocol.specs.declared.Reply.{Reply}
+use Rattle.protocol.specs.declared.Verdict.the-variants.{Good, Bad}
+use Rattle.protocol.specs.declared.Decision.{Decision}
+use Rattle.protocol.specs.declared.Decision.the-variants.{Undecided, Decided}
 use Rattle.protocol.specs.declared.SocksError.{SocksError}
 use Rattle.protocol.specs.declared.SocksError.the-variants.{ShortOutput, MissingHost, HostByte, MissingPort, CredentialTooLong, HostTooLong, IpV6, DnsFailure, UnexpectedEof, Parsing, Unsupported, MethodMismatch, Failed, Command, Settled}
 use Rattle.protocol.specs.declared.Answer.{Answer}
@@ -27,8 +30,9 @@ use Rattle.protocol.specs.Host.{strip}
 use Rattle.protocol.specs.AddressText.{Name}
 use Rattle.protocol.specs.AddressReading.{Destination, ipv4, ipv6, domain, destinationOf}
 use Rattle.protocol.specs.Requests.{negotiationReq, authenticationReq, addressField, proxyReq}
-use Rattle.protocol.specs.Opening.{V5, recordFamily, firstRecord, check5, Opening, v5, Credentials, noAuth, userPass, asked5, orElse, credentialsIf, portNumber, opening5, Limits}
-use Rattle.protocol.specs.Machine.{sends}
+use Rattle.protocol.specs.Opening.{V5, recordFamily, firstRecord, check5, Opening, v5, noAuth, userPass, asked5, orElse, credentialsIf, portNumber, opening5, replies, atOpening, later, v4, openingRoom, Limits}
+use Rattle.protocol.specs.Replies.{decide}
+use Rattle.protocol.specs.Machine.{sends, reads, run, machine}
 use Rattle.protocol.proofs.Openings.{check5-just}
 use Rattle.protocol.proofs.Destinations.{ipv4-length, ipv6-length, domain-is, name-just}
 
@@ -106,14 +110,41 @@ limits5 room a x e =
 
 -- ---- what is sent in all
 
-lengths : List (List ℕ) → ℕ
+abbrev lengths : List (List ℕ) → ℕ
 lengths [] = 0
 lengths (q ∷ qs) = length q + lengths qs
 
 sends-length : (qs : List (List ℕ)) (sent : List ℕ) → length (sends qs sent) ≡ length sent + lengths qs
-unfolding lengths
 sends-length [] sent = omega arith
 sends-length (q ∷ qs) sent = omega (arith, sends-length qs (sent ++ q), length-append sent q)
+
+first-and-rest : (qs : List (List ℕ)) → lengths (take 1 qs) + lengths (drop 1 qs) ≡ lengths qs
+first-and-rest [] = refl
+first-and-rest (q ∷ qs) = omega arith
+
+run-length : (es : List Reply) (left : List (List ℕ)) (sent : List ℕ) (place : ℕ) (bs : List ℕ) → length (run es left sent place bs .sent) ≤ length sent + lengths left
+unfolding run
+run-length [] left sent place bs = omega arith
+run-length (e ∷ es) left sent place bs =
+    go (decide e (drop place bs)) (λ p. let h = run-length es (drop 1 left) (sends (take 1 left) sent) p bs in omega (arith, sends-length (take 1 left) sent, first-and-rest left))
+  where
+    go : (d : Decision) → ((p : ℕ) → length (run es (drop 1 left) (sends (take 1 left) sent) p bs .sent) ≤ length sent + lengths left)
+        → length (reads d sent place (λ p. run es (drop 1 left) (sends (take 1 left) sent) p bs) .sent) ≤ length sent + lengths left
+    go Undecided ih = omega arith
+    go (Decided n Good) ih = ih (place + n)
+    go (Decided n (Bad x)) ih = omega arith
+
+sent-length : (o : Opening) (bs : List ℕ) → length (machine o bs .sent) ≤ lengths (atOpening o) + lengths (later o)
+unfolding machine
+sent-length o bs = omega (arith, run-length (replies o) (later o) (sends (atOpening o) []) 0 bs, sends-length (atOpening o) [])
+
+-- an opening whose requests keep to their limits sends at most 778 bytes over v5, and 1,024 over v4
+pub sent-within : (o : Opening) → Limits o → (bs : List ℕ) → length (machine o bs .sent) ≤ openingRoom o
+sent-within (v5 noAuth d port true) l bs = omega (arith, sent-length (v5 noAuth d port true) bs, l .0, l .1)
+sent-within (v5 noAuth d port false) l bs = omega (arith, sent-length (v5 noAuth d port false) bs, l .0, l .1)
+sent-within (v5 (userPass u p) d port true) l bs = omega (arith, sent-length (v5 (userPass u p) d port true) bs, l .0, l .1, l .2)
+sent-within (v5 (userPass u p) d port false) l bs = omega (arith, sent-length (v5 (userPass u p) d port false) bs, l .0, l .1, l .2)
+sent-within (v4 d port) l bs = omega (arith, sent-length (v4 d port) bs, l)
 
 -- ---- no number is 11
 

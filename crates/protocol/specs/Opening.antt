@@ -226,7 +226,12 @@ later o = cond (optimistic o) [] (drop 1 (requests o))
 
 -- ---- F-4: each request has a limit of its own
 
--- the output that a delivery must lend, by the version: what all requests of v5 together have at most; 262 over v4
+-- the output that an opening must lend, by the version: what its requests have at most
+abbrev pub openingRoom : Opening → ℕ
+openingRoom (v5 c d port o) = 778
+openingRoom (v4 d port) = 1024
+
+-- the output that a delivery must lend
 abbrev pub deliveryRoom : Opening → ℕ
 deliveryRoom (v5 c d port o) = 778
 deliveryRoom (v4 d port) = 262

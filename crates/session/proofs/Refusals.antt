@@ -14,11 +14,12 @@ use Rattle.protocol.specs.declared.Record.{Record}
 use Rattle.protocol.specs.Host.{strip}
 use Rattle.protocol.specs.AddressText.{Name}
 use Rattle.protocol.specs.Opening.{V5, V4, conditions5, conditions4, Answers, check5, check4, Opening, opening5, opening4}
+use Rattle.protocol.proofs.Limits.{answer-not-11, outcome-not-11}
 use Rattle.protocol.proofs.Openings.{check5-just, check4-just, lookup5, lookup4}
 use Rattle.session.specs.declared.Session.{Session}
-use Rattle.session.specs.Session.{view, packed, roomAt}
+use Rattle.session.specs.Session.{view, packed, outcome, roomAt}
 use Rattle.protocol.specs.Numbers.{answerNumber}
-use Rattle.session.specs.Calls.{Call, refusal, nothingKept, emptySession, openBy, open5, open4, takes, deliver, end}
+use Rattle.session.specs.Calls.{Call, Without, refusal, nothingKept, emptySession, openBy, open5, open4, takes, deliver, end}
 use Rattle.talk.specs.Talk.{failed, ended, isOver}
 
 -- an opening answers as its checks do, and a refused one returns the empty session, failed with that error
@@ -117,3 +118,10 @@ module _ (s : Session) where
       go : (a : Bool) → answerNumber (ends a .answer) ≡ cond a 16 0
       go true = refl
       go false = refl
+
+-- F-4: 11 is not met by any opening, delivery or end, for any arguments and any session value
+without-11 : (c : Call) → Without 11 c
+without-11 c = (answer-not-11 (c .answer), outcome-not-11 (outcome (c .session)))
+
+pub never-11 : (a : V5) (b : V4) (s : Session) (piece out : List ℕ) → Without 11 (open5 a out) × Without 11 (open4 b out) × Without 11 (deliver s piece out) × Without 11 (end s)
+never-11 a b s piece out = (without-11 (open5 a out), without-11 (open4 b out), without-11 (deliver s piece out), without-11 (end s))

@@ -11,6 +11,7 @@ use Rattle.protocol.specs.declared.SocksError.{SocksError}
 use Rattle.protocol.specs.declared.SocksError.the-variants.{ShortOutput, UnexpectedEof, Settled}
 use Rattle.protocol.specs.declared.Answer as code
 use Rattle.protocol.specs.declared.Answer.the-variants.{Accepted, Refused}
+use Rattle.protocol.specs.Numbers.{answerNumber, outcomeNumber}
 use Rattle.protocol.specs.AddressReading.{Destination, ipv4, ipv6, domain}
 use Rattle.protocol.specs.Opening.{V5, V4, check5, check4, Opening, v5, v4, noAuth, userPass, opening5, opening4}
 use Rattle.protocol.specs.Client.{side, begun}
@@ -20,7 +21,7 @@ use Rattle.session.specs.declared.Session.{Session}
 use Rattle.session.specs.declared.Opened.{Opened}
 use Rattle.session.specs.declared.Delivered.{Delivered}
 use Rattle.session.specs.declared.Ended.{Ended}
-use Rattle.session.specs.Session.{sideOf, view, packed, roomAt}
+use Rattle.session.specs.Session.{sideOf, view, packed, outcome, roomAt}
 use Rattle.talk.specs.Talk.{failed, ended, feed, onward, heldBy, isOver, reached}
 use Rattle.talk.specs.Tunnel.{Answer, Receiver}
 use Rattle.sending.specs.Stages.{SideFed}
@@ -134,3 +135,8 @@ unfoldable pub end : Session → Call
 end s =
     cond (isOver (view s)) (refusal Settled s [])
     (record { answer = Accepted; session = packed s (ended (failed UnexpectedEof)); used = 0; sent = 0; output = [] })
+
+-- ---- a number that a call does not meet, neither as its answer nor as the outcome of what it returns
+
+abbrev pub Without : ℕ → Call → Type 0
+Without n c = (answerNumber (c .answer) ≡ n → ⊥) × (outcomeNumber (outcome (c .session)) ≡ n → ⊥)

@@ -1,3 +1,4 @@
+pub mod Claims
 pub mod Tunnels
 pub mod Openings
 pub mod Examples

@@ -5,7 +5,7 @@ use mathlib.Core.Path.{_≡_, refl, ap, sym, subst, _∙_}
 use mathlib.Core.Bool.{Bool, true, false, cond, true≢false}
 use mathlib.Core.List.{List, [], _∷_, _++_, List·Memᴰ·head, List·Memᴰ·tail}
 use lib.ListN.{length, drop}
-use lib.Seq.{take-append-seam, drop-append-seam}
+use lib.Seq.{take-append-seam}
 use lib.Dec.{leb}
 use Rattle.protocol.specs.declared.SocksError.the-variants.{ShortOutput, Settled}
 use Rattle.protocol.specs.Bytes.{Bytes}
@@ -13,10 +13,7 @@ use Rattle.protocol.specs.Opening.{Opening, deliveryRoom}
 use Rattle.protocol.specs.Machine.{Machine, machine, used}
 use Rattle.protocol.specs.Client as client
 use Rattle.protocol.proofs.Client.{client-lawful, begun-shaped, machine-feed, used-feed}
-use Rattle.protocol.specs.Grammar.{Sequence}
-use Rattle.protocol.specs.declared.Outcome.the-variants.{Open}
 use Rattle.protocol.proofs.Bytes.{bytes-join}
-use Rattle.protocol.proofs.Claims.{one-length}
 use Rattle.protocol.proofs.Rooms.{Waits, onward-waits}
 use Rattle.protocol.proofs.Sequences.{open-just, open-one}
 use Rattle.session.specs.declared.Session.{Session}
@@ -30,7 +27,6 @@ use Rattle.talk.specs.Talk as talk
 use Rattle.talk.specs.Tunnel as side
 use Rattle.talk.specs.Tunnel.{Delivery, lends, answerTo, joined, tunnel, given, refusing, accepting}
 use Rattle.talk.specs.Follow as like
-use Rattle.talk.specs.Lawful.{Begins}
 use Rattle.talk.proofs.Pieces.{pieces}
 use Rattle.talk.proofs.Follow as follow
 
@@ -160,11 +156,3 @@ demand3 o s sent b ds pieces-are =
             rest = g .rest ∙ ap (λ (l : List ℕ). drop (used o l) l) e ∙ sym (f .rest);
           };
     }
-
--- an open tunnel's joined bytes are the reply sequence that they begin with, and then the rests
-pub opened-then-rest : (o : Opening) (s : Session) (sent : List ℕ) (ds : List Delivery) → Demand3 o s sent ds → outcome (tunnel (receiver (deliveryRoom o)) s sent ds .session) ≡ Open
-    → (p : List ℕ) → Begins p (joined (receiver (deliveryRoom o)) ds) → Sequence o p → joined (receiver (deliveryRoom o)) ds ≡ p ++ tunnel (receiver (deliveryRoom o)) s sent ds .rest
-opened-then-rest o s sent ds d q p (f, b) r =
-    let l = one-length (d .just-one q) p (f, b) r in
-    let e : drop (tunnel (receiver (deliveryRoom o)) s sent ds .count) (joined (receiver (deliveryRoom o)) ds) ≡ f = rw (l, b) (drop-append-seam p f) in
-    b ∙ ap (λ (x : List ℕ). p ++ x) (sym (d .rests-are ∙ e))

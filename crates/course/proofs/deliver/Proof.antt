@@ -26,7 +26,7 @@ rest-of-requires c κs = search needs
 put-rest-requires : tie.Need-put-rest-requires
 put-rest-requires c κs = let p = c .before .before .before .before .before .before .before .before .before .before .before .before .before .before .before .before .before .before .before .before .pre in
     let d = c .before .before .before .before .before .before .before .before .before .before .before .before .deliver in
-    (search needs, (subst⁻¹ (λ (l : List ℕ). length l ≤ 65535) (c .before .rest-of .ensures) (le-trans (rest-short (length (d .last .1 .1 .0)) (c .before .before .before .before .before .before .before .before .before .before .before .before .before .before .before .before .before .before .before .before .args .piece .now) (d .result .used)) (p .1 .0)), p .1 .1 .1))
+    (search needs, (subst⁻¹ (λ (l : List ℕ). length l ≤ 65535) (c .before .rest-of .ensures) (le-trans (rest-short _ (length (d .last .1 .1 .0)) (c .before .before .before .before .before .before .before .before .before .before .before .before .before .before .before .before .before .before .before .before .args .piece .now) (d .result .used)) (p .1 .0)), p .1 .1 .1))
 
 same-length : tie.Need-same-length
 same-length c = search needs
