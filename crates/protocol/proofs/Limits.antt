@@ -3,8 +3,9 @@ use Prim.Native.Nat.{ℕ, _+_, _≤_, _<_}
 use native.Mathlib.Omega.{arith}
 use mathlib.Core.Path.{_≡_, refl, ap, _∙_}
 use mathlib.Core.Logic.{_⊎_, inl, inr}
+use mathlib.Core.Option.{Option, none, some}
 use mathlib.Core.Bool.{Bool, true, false, cond}
-use mathlib.Core.List.{List, [], _∷_, _++_, List·Memᴰ, List·Memᴰ·head}
+use mathlib.Core.List.{List, [], _∷_, _++_, List·Memᴰ·head}
 use lib.ListN.{length, take, drop, length-append, length-take}
 use lib.Dec.{leb}
 use borrow.Author.Tests.{leb-true, leb-false}
@@ -29,12 +30,12 @@ use Rattle.protocol.specs.Numbers.{number, answerNumber, outcomeNumber}
 use Rattle.protocol.specs.Host.{strip}
 use Rattle.protocol.specs.AddressText.{Name}
 use Rattle.protocol.specs.AddressReading.{Destination, ipv4, ipv6, domain, destinationOf}
-use Rattle.protocol.specs.Requests.{negotiationReq, authenticationReq, addressField, proxyReq}
-use Rattle.protocol.specs.Opening.{V5, recordFamily, firstRecord, check5, Opening, v5, noAuth, userPass, asked5, orElse, credentialsIf, portNumber, opening5, replies, atOpening, later, v4, openingRoom, Limits}
+use Rattle.protocol.specs.Requests.{negotiationReq, authenticationReq, addressField, proxyReq, address, name, request}
+use Rattle.protocol.specs.Opening.{V5, V4, recordFamily, firstRecord, unlessFour, firstFour, check5, check4, foundFour, asked4, opening4, Opening, v5, noAuth, userPass, asked5, orElse, credentialsIf, portNumber, opening5, replies, atOpening, later, v4, openingRoom, Limits, Sixteen}
 use Rattle.protocol.specs.Replies.{decide}
 use Rattle.protocol.specs.Machine.{sends, reads, run, machine}
-use Rattle.protocol.proofs.Openings.{check5-just}
-use Rattle.protocol.proofs.Destinations.{ipv4-length, ipv6-length, domain-is, name-just}
+use Rattle.protocol.proofs.Openings.{check5-just, check4-just}
+use Rattle.protocol.proofs.Destinations.{ipv4-length, ipv6-length, ipv6-just, domain-is, name-just}
 
 pub greeting-size : (m : AuthMethod) → length (negotiationReq m) ≡ 3
 unfolding negotiationReq
@@ -60,16 +61,12 @@ connect-limit (domain s) port h = omega (arith, length-append s (two port))
 
 -- ---- an accepted opening
 
-at-most : (n : ℕ) → (255 < n → ⊥) → n ≤ 255
-at-most n h = go (leb n 255) refl
+at-most : (m n : ℕ) → (m < n → ⊥) → n ≤ m
+at-most m n h = go (leb n m) refl
   where
-    go : (b : Bool) → leb n 255 ≡ b → n ≤ 255
-    go true e = leb-true n 255 e
-    go false e = absurd (h (leb-false n 255 e))
-
--- each record has sixteen address bytes, as the array has
-abbrev Sixteen : List Record → Type 0
-Sixteen rs = (r : Record) → List·Memᴰ r rs → length (r .address) ≡ 16
+    go : (b : Bool) → leb n m ≡ b → n ≤ m
+    go true e = leb-true n m e
+    go false e = absurd (h (leb-false n m e))
 
 family-short : (f : Family) (bs : List ℕ) → length bs ≡ 16 → Short (recordFamily f bs)
 family-short Four bs l = omega (arith, length-take 4 bs)
@@ -89,14 +86,14 @@ asked-short lookup rs s x h = go (destinationOf s) refl
     go (domain n) e =
         let k = domain-is s n e in
         let w : Name s = name-just s .0 (e ∙ ap domain k) in
-        found-short lookup rs n x (rw k (at-most (length s) (λ l. h (w, l))))
+        found-short lookup rs n x (rw k (at-most 255 (length s) (λ l. h (w, l))))
 
 limits-of : (b : Bool) (u p : List ℕ) (d : Destination) (port : ℕ) (o : Bool) → ((b ≡ true) × ((255 < length u) ⊎ (255 < length p)) → ⊥) → Short d
     → Limits (v5 (credentialsIf b u p) d port o)
 limits-of false u p d port o h k = (greeting-size NoAuth, connect-limit d port k)
 limits-of true u p d port o h k = (
   greeting-size UserPass,
-  credentials-limit u p (at-most (length u) (λ l. h (refl, inl l))) (at-most (length p) (λ l. h (refl, inr l))),
+  credentials-limit u p (at-most 255 (length u) (λ l. h (refl, inl l))) (at-most 255 (length p) (λ l. h (refl, inr l))),
   connect-limit d port k,
 )
 
@@ -107,6 +104,51 @@ limits5 room a x e =
     let c = n .1 .1 .1 .1 in
     limits-of (a .config .«proxy_auth») (a .user) (a .password) _ (portNumber (a .port)) (a .config .optimistic) (c .0)
     (asked-short (a .config .«local_dns») (a .records) (strip (a .host)) x (c .1 .0))
+
+-- ---- over v4
+
+address-limit : (bs : List ℕ) (port : ℕ) → length bs ≤ 4 → length (request (address bs) port) ≤ 1024
+unfolding request
+address-limit bs port h = omega (arith, length-append bs (0 ∷ []))
+
+name-limit : (s : List ℕ) (port : ℕ) → length s ≤ 1014 → length (request (name s) port) ≤ 1024
+unfolding request
+name-limit s port h = omega (arith, length-append s (0 ∷ []))
+
+abbrev Four4 : Option (List ℕ) → Type 0
+Four4 none = Unit {0}
+Four4 (some bs) = length bs ≤ 4
+
+four-short : (rs : List Record) → Four4 (firstFour rs)
+unfolding firstFour
+four-short [] = tt
+four-short (r ∷ rs) = go (r .family) (four-short rs)
+  where
+    go : (f : Family) → Four4 (firstFour rs) → Four4 (unlessFour f (r .address) (firstFour rs))
+    go Four ih = omega (arith, length-take 4 (r .address))
+    go Six ih = ih
+
+found-limit : (found : Option (List ℕ)) (s : List ℕ) (port : ℕ) → Four4 found → length s ≤ 1014 → length (request (foundFour found s) port) ≤ 1024
+found-limit none s port f h = name-limit s port h
+found-limit (some bs) s port f h = address-limit bs port f
+
+named-limit : (lookup : Bool) (rs : List Record) (s : List ℕ) (port : ℕ) → length s ≤ 1014 → length (request (cond lookup (foundFour (firstFour rs) s) (name s)) port) ≤ 1024
+named-limit true rs s port h = found-limit (firstFour rs) s port (four-short rs) h
+named-limit false rs s port h = name-limit s port h
+
+pub limits4 : (room : ℕ) (a : V4) → check4 room a ≡ Accepted → Limits (opening4 a)
+unfolding opening4
+limits4 room a e = go (destinationOf (strip (a .host))) refl
+  where
+    go : (d : Destination) → destinationOf (strip (a .host)) ≡ d → length (request (asked4 (a .localDns) (a .records) d) (portNumber (a .port))) ≤ 1024
+    go (ipv4 bs) q = address-limit bs (portNumber (a .port)) (omega (arith, ipv4-length (strip (a .host)) bs q))
+    go (ipv6 bs) q = let n = check4-just room a .accepts .0 (ap answerNumber e) in absurd (n .1 .1 .1 .1 .0 (bs, ipv6-just (strip (a .host)) bs .0 q))
+    go (domain m) q =
+        let n = check4-just room a .accepts .0 (ap answerNumber e) in
+        let k = domain-is (strip (a .host)) m q in
+        let w : Name (strip (a .host)) = name-just (strip (a .host)) .0 (q ∙ ap domain k) in
+        let h : length (strip (a .host)) ≤ 1014 = at-most 1014 (length (strip (a .host))) (λ l. n .1 .1 .1 .1 .1 .0 (w, l)) in
+        named-limit (a .localDns) (a .records) m (portNumber (a .port)) (rw k h)
 
 -- ---- what is sent in all
 

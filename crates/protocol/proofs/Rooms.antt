@@ -11,9 +11,9 @@ use Rattle.protocol.specs.declared.Reply.the-variants.{NegotiationRes, A
 use Rattle.protocol.specs.declared.SocksError.{SocksError}
 use Rattle.protocol.specs.Opening.{Opening, v5, v4, noAuth, userPass, deliveryRoom}
 use Rattle.protocol.specs.Replies.{decide}
-use Rattle.protocol.specs.Client.{Kept, ClientTalk, due, afterMethod, talkAt, told, client, kept, begun, side, room}
+use Rattle.protocol.specs.Client.{Kept, ClientTalk, due, afterMethod, talkAt, told, client, kept, begun, side, room, Waits}
 use Rattle.talk.specs.Decision.{Decision, undecided, decided, good, bad}
-use Rattle.talk.specs.Talk.{Session, waiting, ended, stop, send, await, deciding, feed}
+use Rattle.talk.specs.Talk.{waiting, stop, send, await, deciding, feed}
 
 abbrev Asks : ℕ → ClientTalk → Type 0
 Asks r (stop e) = Unit {0}
@@ -41,11 +41,6 @@ begun-asks (v5 noAuth d port false) = talk-asks (kept (v5 noAuth d port false)) 
 begun-asks (v5 (userPass u p) d port true) = talk-asks (kept (v5 (userPass u p) d port true)) (NegotiationRes UserPass)
 begun-asks (v5 (userPass u p) d port false) = talk-asks (kept (v5 (userPass u p) d port false)) (NegotiationRes UserPass)
 begun-asks (v4 d port) = talk-asks (kept (v4 d port)) Response
-
--- a session that waits asks for so much output
-abbrev pub Waits : ℕ → Session Reply Unit SocksError → Type 0
-Waits r (waiting e h) = room e ≡ r
-Waits r (ended x) = Unit {0}
 
 feed-waits : (c : Kept) (r : ℕ) (t : ClientTalk) → Asks r t → (bs : List ℕ) → Waits r (feed (client c) t bs .session)
 unfolding feed

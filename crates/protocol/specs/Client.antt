@@ -1,5 +1,6 @@
 -- The client as a side of a handshake: its stages are the replies that it waits for. Written apart from the plain machine.
 use Prim.Native.Nat.{ℕ}
+use mathlib.Core.Path.{_≡_}
 use mathlib.Core.Bool.{Bool, true, false}
 use mathlib.Core.List.{List, []}
 use lib.ListN.{replicate}
@@ -105,3 +106,8 @@ room (NegotiationRes m) = 778
 room AuthenticationRes = 778
 room ProxyRes = 778
 room Response = 262
+
+-- a session that waits asks for so much output
+abbrev pub Waits : ℕ → Session Reply Unit SocksError → Type 0
+Waits r (waiting e h) = room e ≡ r
+Waits r (ended x) = Unit {0}

@@ -4,7 +4,7 @@ use mathlib.Core.Path.{_≡_}
 use mathlib.Core.Logic.{_↔_, _⊎_}
 use mathlib.Core.Option.{Option, none, some}
 use mathlib.Core.Bool.{Bool, true, false, cond, _&&_, _||_, not}
-use mathlib.Core.List.{List, [], _∷_}
+use mathlib.Core.List.{List, [], _∷_, List·Memᴰ}
 use lib.ListN.{length, take, drop}
 use lib.Dec.{ltb, eqb}
 use Rattle.protocol.specs.declared.AuthMethod.the-variants.{NoAuth, UserPass}
@@ -241,3 +241,7 @@ abbrev pub Limits : Opening → Type 0
 Limits (v5 noAuth d port o) = (length (negotiationReq NoAuth) ≡ 3) × (length (proxyReq d port) ≤ 262)
 Limits (v5 (userPass u p) d port o) = (length (negotiationReq UserPass) ≡ 3) × (length (authenticationReq u p) ≤ 513) × (length (proxyReq d port) ≤ 262)
 Limits (v4 d port) = length (request d port) ≤ 1024
+
+-- each record has sixteen address bytes, as its array has
+abbrev pub Sixteen : List Record → Type 0
+Sixteen rs = (r : Record) → List·Memᴰ r rs → length (r .address) ≡ 16

@@ -14,7 +14,8 @@ use Rattle.protocol.specs.Machine.{Machine, machine, used}
 use Rattle.protocol.specs.Client as client
 use Rattle.protocol.proofs.Client.{client-lawful, begun-shaped, machine-feed, used-feed}
 use Rattle.protocol.proofs.Bytes.{bytes-join}
-use Rattle.protocol.proofs.Rooms.{Waits, onward-waits}
+use Rattle.protocol.specs.Client.{Waits}
+use Rattle.protocol.proofs.Rooms.{onward-waits}
 use Rattle.protocol.proofs.Sequences.{open-just, open-one}
 use Rattle.session.specs.declared.Session.{Session}
 use Rattle.sending.specs.declared.Stage.{Stage}
@@ -22,7 +23,7 @@ use Rattle.sending.specs.declared.Stage.the-variants.{Awaiting, Open as OpenSta
 use Rattle.sending.specs.Stages.{SideSession, requestsOf, viewAt}
 use Rattle.session.specs.Session.{heldBytes, view, packed, outcome, roomAt}
 use Rattle.session.specs.Calls.{refusal, takes, deliver, receiver}
-use Rattle.socks.specs.Demand3.{BytePieces, Alike, Demand3}
+use Rattle.socks.specs.Demand3.{BytePieces, Alike, tunnelOf, joinedOf, Demand3}
 use Rattle.talk.specs.Talk as talk
 use Rattle.talk.specs.Tunnel as side
 use Rattle.talk.specs.Tunnel.{Delivery, lends, answerTo, joined, tunnel, given, refusing, accepting}
@@ -102,10 +103,10 @@ pub record Begun (o : Opening) (s : Session) (sent : List ℕ) : Type 0 where
   pub sends : sent ≡ talk.feed (client.side o) (client.begun o) [] .sent
 
 record Fed (o : Opening) (s : Session) (sent : List ℕ) (ds : List Delivery) : Type 0 where
-  outcomes : outcome (tunnel (receiver (deliveryRoom o)) s sent ds .session) ≡ machine o (joined (receiver (deliveryRoom o)) ds) .outcome
-  sends : tunnel (receiver (deliveryRoom o)) s sent ds .sent ≡ machine o (joined (receiver (deliveryRoom o)) ds) .sent
-  count : tunnel (receiver (deliveryRoom o)) s sent ds .count ≡ used o (joined (receiver (deliveryRoom o)) ds)
-  rest : tunnel (receiver (deliveryRoom o)) s sent ds .rest ≡ drop (used o (joined (receiver (deliveryRoom o)) ds)) (joined (receiver (deliveryRoom o)) ds)
+  outcomes : outcome (tunnelOf o s sent ds .session) ≡ machine o (joinedOf o ds) .outcome
+  sends : tunnelOf o s sent ds .sent ≡ machine o (joinedOf o ds) .sent
+  count : tunnelOf o s sent ds .count ≡ used o (joinedOf o ds)
+  rest : tunnelOf o s sent ds .rest ≡ drop (used o (joinedOf o ds)) (joinedOf o ds)
 
 fed : (o : Opening) (s : Session) (sent : List ℕ) → Begun o s sent → (ds : List Delivery) → Fed o s sent ds
 fed o s sent b ds =
@@ -139,7 +140,7 @@ pub demand3 : (o : Opening) (s : Session) (sent : List ℕ) → Begun o s sent �
 demand3 o s sent b ds pieces-are =
     let y = joined-bytes (deliveryRoom o) ds pieces-are in
     let f = fed o s sent b ds in
-    let bs = joined (receiver (deliveryRoom o)) ds in
+    let bs = joinedOf o ds in
     record {
       opens-just = (λ q. open-just o bs y .0 (sym (f .outcomes) ∙ q), λ r. f .outcomes ∙ open-just o bs y .1 r);
       just-one = λ q. rw (f .count) (open-one o bs y (sym (f .outcomes) ∙ q));

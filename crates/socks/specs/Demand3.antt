@@ -25,17 +25,24 @@ pub record Alike (t u : Tunnel Session) : Type 0 where
   pub count : t .count ≡ u .count
   pub rest : t .rest ≡ u .rest
 
+-- the tunnel of an opening, whose deliveries count if they lend what its version asks; and their joined bytes
+abbrev pub tunnelOf : Opening → Session → List ℕ → List Delivery → Tunnel Session
+tunnelOf o s sent ds = tunnel (receiver (deliveryRoom o)) s sent ds
+
+abbrev pub joinedOf : Opening → List Delivery → List ℕ
+joinedOf o ds = joined (receiver (deliveryRoom o)) ds
+
 -- of an opening, the session that it returned and the bytes that it sent
 pub record Demand3 (o : Opening) (s : Session) (sent : List ℕ) (ds : List Delivery) : Type 0 where
   -- open exactly when the joined bytes begin with a reply sequence of the opening's grammar
-  pub opens-just : outcome (tunnel (receiver (deliveryRoom o)) s sent ds .session) ≡ Open ↔ Replied o (joined (receiver (deliveryRoom o)) ds)
+  pub opens-just : outcome (tunnelOf o s sent ds .session) ≡ Open ↔ Replied o (joinedOf o ds)
   -- if open, just one beginning is such a sequence, and the total count is its length
-  pub just-one : outcome (tunnel (receiver (deliveryRoom o)) s sent ds .session) ≡ Open → JustOne o (joined (receiver (deliveryRoom o)) ds) (tunnel (receiver (deliveryRoom o)) s sent ds .count)
+  pub just-one : outcome (tunnelOf o s sent ds .session) ≡ Open → JustOne o (joinedOf o ds) (tunnelOf o s sent ds .count)
   -- open or not, the rests joined are exactly the joined bytes after the total count
-  pub rests-are : tunnel (receiver (deliveryRoom o)) s sent ds .rest ≡ drop (tunnel (receiver (deliveryRoom o)) s sent ds .count) (joined (receiver (deliveryRoom o)) ds)
+  pub rests-are : tunnelOf o s sent ds .rest ≡ drop (tunnelOf o s sent ds .count) (joinedOf o ds)
   -- all sent bytes, the outcome with its status and the total count equal the plain machine's
-  pub sent-as : tunnel (receiver (deliveryRoom o)) s sent ds .sent ≡ machine o (joined (receiver (deliveryRoom o)) ds) .sent
-  pub outcome-as : outcome (tunnel (receiver (deliveryRoom o)) s sent ds .session) ≡ machine o (joined (receiver (deliveryRoom o)) ds) .outcome
-  pub count-as : tunnel (receiver (deliveryRoom o)) s sent ds .count ≡ used o (joined (receiver (deliveryRoom o)) ds)
+  pub sent-as : tunnelOf o s sent ds .sent ≡ machine o (joinedOf o ds) .sent
+  pub outcome-as : outcome (tunnelOf o s sent ds .session) ≡ machine o (joinedOf o ds) .outcome
+  pub count-as : tunnelOf o s sent ds .count ≡ used o (joinedOf o ds)
   -- two lists with equal joined bytes are alike in all of these
-  pub alike : (ds′ : List Delivery) → joined (receiver (deliveryRoom o)) ds′ ≡ joined (receiver (deliveryRoom o)) ds → Alike (tunnel (receiver (deliveryRoom o)) s sent ds′) (tunnel (receiver (deliveryRoom o)) s sent ds)
+  pub alike : (ds′ : List Delivery) → joinedOf o ds′ ≡ joinedOf o ds → Alike (tunnelOf o s sent ds′) (tunnelOf o s sent ds)
