@@ -101,7 +101,8 @@ fn open_chosen(local_dns: bool, host: &[u8], port: Port, chosen: Lookup, out: &m
     }
 }
 
-// Opens a session over SOCKS4: its request stands at the output's start. A refused opening leaves the output as it was.
+// Opens a session over SOCKS4: its request stands at the output's start, which has 1,024 bytes or more. A refused opening leaves the
+// output as it was.
 // Of the lookup's answers the first of family four is taken, and none is read unless a name is to be looked up.
 pub fn open(local_dns: bool, host: &[u8], port: Port, records: &[Record], out: &mut [u8]) -> Opened
     ensures { λ r. ⌜ Opens (open4 (record { localDns = «local_dns»; host = now (host .entry); port = port; records = now (records .entry) }) (now (out .entry))) r (now (out .exit)) ⌝ }

@@ -154,7 +154,8 @@ fn open_chosen(
     }
 }
 
-// Opens a session over SOCKS5: what it sends stands at the output's start. A refused opening leaves the output as it was.
+// Opens a session over SOCKS5: what it sends stands at the output's start, which has 778 bytes or more. A refused opening leaves the
+// output as it was.
 // Of the lookup's answers the first record is taken, and none is read unless a name is to be looked up.
 pub fn open(
     config: SocksConfig,

@@ -1,5 +1,4 @@
 // What a good reply makes due, sent: requests written from what a session keeps.
-ghost use mathlib.Core.Path.{_≡_};
 ghost use mathlib.Core.Bool.{true};
 ghost use Prim.Native.Nat.{_+_, _≤_};
 ghost use lib.ListN.{length};
@@ -14,6 +13,7 @@ use protocol::SocksError;
 use protocol::Verdict;
 use wire::Written;
 use wire::place;
+use wire::wide;
 
 // Which reply a session waits for, or how it ended.
 pub enum Stage {
@@ -45,12 +45,6 @@ pub fn put_proxy(kept: Kept, out: &mut [u8], at: usize) -> usize
 {
     let address = kept.address;
     place(requests_v5::write_proxy_req(out, at, address), at)
-}
-
-fn wide(b: u8) -> usize
-    ensures { λ r. ⌜ r ≡ b ⌝ }
-{
-    b as usize
 }
 
 // The AuthenticationReq of what is kept.
