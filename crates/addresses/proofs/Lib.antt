@@ -2,3 +2,4 @@ pub mod Lists
 pub mod Dots
 pub mod Colons
 pub mod Gaps
+pub mod Marks

@@ -15,7 +15,7 @@ use digits::read_digits;
 use protocol::AddressKind;
 use protocol::Follows;
 
-fn no_address() -> AddressText
+pub fn no_address() -> AddressText
     ensures { λ r. ⌜ r ≡ ipv4Text none ⌝ }
 {
     let zeros = [0u8; 16];

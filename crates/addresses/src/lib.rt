@@ -1,7 +1,8 @@
 // Address text: what a host stands for.
 
 ghost use mathlib.Core.Path.{_≡_};
-ghost use Rattle.protocol.specs.AddressReading.{destinationOf};
+ghost use mathlib.Core.Bool.{true};
+ghost use Rattle.protocol.specs.AddressReading.{domain, destinationOf};
 ghost use Rattle.addresses.specs.Answers.{addressText};
 use protocol::AddressKind;
 
@@ -13,10 +14,24 @@ pub struct AddressText {
     pub bytes: [u8; 16],
 }
 
+// Whether none of the first five bytes is `.` or `:`, or any other up to 3A. Of address text one is: no number has more than three
+// digits, and no group more than four.
+fn lacks_mark(text: &[u8]) -> bool
+    ensures { λ r. ⌜ (r ≡ true → destinationOf (now (text .entry)) ≡ domain (now (text .entry))) ⌝ }
+{
+    if text.len() < 5 {
+        return false;
+    }
+    0x3A < text[0] && (0x3A < text[1] && (0x3A < text[2] && (0x3A < text[3] && 0x3A < text[4])))
+}
+
 // What a host's text stands for.
 pub fn read_address(text: &[u8]) -> AddressText
     ensures { λ r. ⌜ r ≡ addressText (destinationOf (now (text .entry))) ⌝ }
 {
+    if lacks_mark(text) {
+        return address::no_address();
+    }
     let four = address::read_ipv4(text);
     let kind = four.kind;
     match kind {

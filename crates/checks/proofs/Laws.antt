@@ -2,9 +2,11 @@
 use mathlib.Core.Path.{_≡_, refl, ap, _∙_}
 use mathlib.Core.Bool.{Bool, true, false, cond, not, _&&_, _||_}
 use mathlib.Core.List.{List, [], _∷_}
-use Prim.Native.Nat.{ℕ}
+use Prim.Native.Nat.{ℕ, suc}
+use native.Mathlib.Omega.{arith}
 use lib.ListN.{length}
 use lib.Dec.{ltb}
+use borrow.Author.Tests.{ne-eqb}
 use Rattle.protocol.specs.declared.AddressKind.{AddressKind}
 use Rattle.protocol.specs.declared.Answer.{Answer}
 use Rattle.protocol.specs.declared.Port.{Port}
@@ -14,16 +16,21 @@ use Rattle.protocol.specs.declared.SocksError.the-variants.{CredentialTooLong, 
 use Rattle.protocol.specs.Host.{strip}
 use Rattle.protocol.specs.AddressReading.{Destination, ipv4, ipv6, domain, destinationOf}
 use Rattle.protocol.specs.Requests.{kindOf}
-use Rattle.protocol.specs.Opening.{refuse, isName, isIpv6, isNone, firstRecord, firstFour, check5, check4}
+use Rattle.protocol.specs.Opening.{refuse, isEmpty, isName, isIpv6, isNone, firstRecord, firstFour, check5, check4}
+use Rattle.addresses.specs.declared.AddressText.{AddressText}
 use Rattle.addresses.specs.Answers.{addressText}
-use Rattle.checks.specs.Checks.{checkShared, checkName}
+use Rattle.checks.specs.Checks.{checkShared, checkName, checkBy5, checkBy4}
 
-pub name-kind : (d : Destination) → isName (kindOf (addressText d .kind) []) ≡ isName d
+name-kind : (d : Destination) → isName (kindOf (addressText d .kind) []) ≡ isName d
 name-kind (ipv4 bs) = refl
 name-kind (ipv6 bs) = refl
 name-kind (domain s) = refl
 
-pub ipv6-kind : (d : Destination) → isIpv6 (kindOf (addressText d .kind) []) ≡ isIpv6 d
+-- what was read of a host says whether it is a name
+pub read-name : (host : List ℕ) (read : AddressText) → read ≡ addressText (destinationOf (strip host)) → isName (kindOf (read .kind) []) ≡ isName (destinationOf (strip host))
+read-name host read e = ap (λ (t : AddressText). isName (kindOf (t .kind) [])) e ∙ name-kind (destinationOf (strip host))
+
+ipv6-kind : (d : Destination) → isIpv6 (kindOf (addressText d .kind) []) ≡ isIpv6 d
 ipv6-kind (ipv4 bs) = refl
 ipv6-kind (ipv6 bs) = refl
 ipv6-kind (domain s) = refl
@@ -34,22 +41,32 @@ none-found false r = refl
 
 -- ---- what the parts of a check come to
 
-module _ (host : List ℕ) (port : Port) (room : ℕ) (records : List Record) {kind : AddressKind} {name : Bool} {named own r : Answer} where
-  pub checks5 : (config : SocksConfig) (user password : List ℕ) {none long : Bool} → kind ≡ addressText (destinationOf (strip host)) .kind → name ≡ isName (kindOf kind [])
-      → none ≡ isNone (firstRecord records) → named ≡ checkName name host 255 (config .«local_dns») none
-      → long ≡ (config .«proxy_auth» && (ltb 255 (length user) || ltb 255 (length password))) → own ≡ refuse long CredentialTooLong named
-      → r ≡ checkShared host port room 778 own
-      → r ≡ check5 room (record { config = config; host = host; port = port; user = user; password = password; records = records })
-  unfolding check5
-  checks5 config user password k n f d l o e =
-      let m : name ≡ isName (destinationOf (strip host)) = n ∙ ap (λ (x : AddressKind). isName (kindOf x [])) k ∙ name-kind (destinationOf (strip host)) in
-      e ∙ rw (o, d, l, f, m)
+-- an empty host is empty without brackets too
+stripped-empty : (h : List ℕ) → (isEmpty h || isEmpty (strip h)) ≡ isEmpty (strip h)
+unfolding strip
+stripped-empty [] = refl
+stripped-empty (a ∷ h) = rw (ne-eqb (suc (length h)) 0 (λ e. absurd (omega arith)))
 
-  pub checks4 : (localDns : Bool) {none six : Bool} → kind ≡ addressText (destinationOf (strip host)) .kind → name ≡ isName (kindOf kind []) → none ≡ isNone (firstFour records)
-      → named ≡ checkName name host 1014 localDns none → six ≡ isIpv6 (kindOf kind []) → own ≡ refuse six IpV6 named → r ≡ checkShared host port room 1024 own
-      → r ≡ check4 room (record { localDns = localDns; host = host; port = port; records = records })
+module _ (text : List ℕ) (kind : AddressKind) (port : Port) (room : ℕ) (records : List Record) {name : Bool} (n : name ≡ isName (kindOf kind [])) where
+  pub checked5 : (config : SocksConfig) (user password : List ℕ) {none long : Bool} {named own r : Answer} → none ≡ isNone (firstRecord records) → named ≡ checkName name text 255 (config .«local_dns») none
+      → long ≡ (config .«proxy_auth» && (ltb 255 (length user) || ltb 255 (length password))) → own ≡ refuse long CredentialTooLong named
+      → r ≡ checkShared text port room 778 own → r ≡ checkBy5 room config text kind port user password records
+  checked5 config user password f d l o e = e ∙ rw (o, d, l, f, n)
+
+  pub checked4 : (localDns : Bool) {none six : Bool} {named own r : Answer} → none ≡ isNone (firstFour records) → named ≡ checkName name text 1014 localDns none → six ≡ isIpv6 (kindOf kind [])
+      → own ≡ refuse six IpV6 named → r ≡ checkShared text port room 1024 own → r ≡ checkBy4 room localDns text kind port records
+  checked4 localDns f d s o e = e ∙ rw (o, d, s, f, n)
+
+-- ---- the checks of a host by what was read of it are those of protocol
+
+module _ (host : List ℕ) (port : Port) (room : ℕ) (records : List Record) {read : AddressText} (e : read ≡ addressText (destinationOf (strip host))) where
+  pub checks5 : (config : SocksConfig) (user password : List ℕ)
+      → checkBy5 room config (strip host) (read .kind) port user password records ≡ check5 room (record { config = config; host = host; port = port; user = user; password = password; records = records })
+  unfolding check5
+  checks5 config user password = rw (read-name host read e, stripped-empty host)
+
+  pub checks4 : (localDns : Bool) → checkBy4 room localDns (strip host) (read .kind) port records ≡ check4 room (record { localDns = localDns; host = host; port = port; records = records })
   unfolding check4
-  checks4 localDns k n f d s o e =
-      let m : name ≡ isName (destinationOf (strip host)) = n ∙ ap (λ (x : AddressKind). isName (kindOf x [])) k ∙ name-kind (destinationOf (strip host)) in
-      let v = s ∙ ap (λ (x : AddressKind). isIpv6 (kindOf x [])) k ∙ ipv6-kind (destinationOf (strip host)) in
-      e ∙ rw (o, d, v, f, m)
+  checks4 localDns =
+      let v : isIpv6 (kindOf (read .kind) []) ≡ isIpv6 (destinationOf (strip host)) = ap (λ (t : AddressText). isIpv6 (kindOf (t .kind) [])) e ∙ ipv6-kind (destinationOf (strip host)) in
+      rw (read-name host read e, v, stripped-empty host)

@@ -4,12 +4,10 @@ ghost use mathlib.Core.Bool.{not, _&&_, _||_};
 ghost use mathlib.Core.List.{[]};
 ghost use lib.ListN.{length};
 ghost use lib.Dec.{ltb};
-ghost use Rattle.protocol.specs.Host.{strip, allAllowed};
-ghost use Rattle.protocol.specs.AddressReading.{destinationOf};
+ghost use Rattle.protocol.specs.Host.{allAllowed};
 ghost use Rattle.protocol.specs.Requests.{kindOf};
-ghost use Rattle.protocol.specs.Opening.{refuse, isEmpty, isMissing, isName, isIpv6, isNone, firstRecord, firstFour, check5, check4};
-ghost use Rattle.checks.specs.Checks.{checkShared, checkName};
-ghost use Rattle.addresses.specs.Answers.{addressText};
+ghost use Rattle.protocol.specs.Opening.{refuse, isMissing, isName, isIpv6, isNone, firstRecord, firstFour};
+ghost use Rattle.checks.specs.Checks.{checkShared, checkName, checkBy5, checkBy4};
 ghost use Rattle.lookup.specs.Chosen.{recordsOf};
 use lookup::Lookup;
 use protocol::AddressKind;
@@ -19,19 +17,10 @@ use protocol::Port;
 use protocol::SocksConfig;
 use protocol::SocksError;
 
-fn lacks_host(host: &[u8]) -> bool
-    ensures { λ r. ⌜ r ≡ (isEmpty (now (host .entry)) || isEmpty (strip (now (host .entry)))) ⌝ }
+fn has_forbidden(text: &[u8]) -> bool
+    ensures { λ r. ⌜ r ≡ not (allAllowed (now (text .entry))) ⌝ }
 {
-    if host.len() == 0 {
-        return true;
-    }
-    host::strip_ipv6_brackets(host).len() == 0
-}
-
-fn has_forbidden(host: &[u8]) -> bool
-    ensures { λ r. ⌜ r ≡ not (allAllowed (strip (now (host .entry)))) ⌝ }
-{
-    !host::all_allowed(host::strip_ipv6_brackets(host))
+    !host::all_allowed(text)
 }
 
 fn lacks_port(port: Port) -> bool
@@ -47,13 +36,6 @@ fn credentials_too_long(auth: bool, user: &[u8], password: &[u8]) -> bool
     ensures { λ r. ⌜ r ≡ (auth && (ltb 255 (length (now (user .entry))) || ltb 255 (length (now (password .entry))))) ⌝ }
 {
     auth && (255 < user.len() || 255 < password.len())
-}
-
-// What the host is as address text.
-pub fn kind_of(host: &[u8]) -> AddressKind
-    ensures { λ r. ⌜ r ≡ addressText (destinationOf (strip (now (host .entry)))) .kind ⌝ }
-{
-    addresses::read_address(host::strip_ipv6_brackets(host)).kind
 }
 
 pub fn is_name(kind: AddressKind) -> bool
@@ -76,11 +58,11 @@ fn is_ipv6(kind: AddressKind) -> bool
     }
 }
 
-// Whether a host that is a name has more bytes than a request takes.
-fn name_too_long(name: bool, host: &[u8], most: usize) -> bool
-    ensures { λ r. ⌜ r ≡ (name && ltb most (length (strip (now (host .entry))))) ⌝ }
+// Whether a text that is a name has more bytes than a request takes.
+fn name_too_long(name: bool, text: &[u8], most: usize) -> bool
+    ensures { λ r. ⌜ r ≡ (name && ltb most (length (now (text .entry)))) ⌝ }
 {
-    name && most < host::strip_ipv6_brackets(host).len()
+    name && most < text.len()
 }
 
 fn finds_none(chosen: Lookup) -> bool
@@ -104,16 +86,16 @@ pub fn finds_no_four(chosen: Lookup) -> bool
 }
 
 // What both versions refuse first, for an output of so many bytes of at least so many, ahead of what else an opening answers.
-fn check_shared(host: &[u8], port: Port, room: usize, least: usize, later: Answer) -> Answer
-    ensures { λ r. ⌜ r ≡ checkShared (now (host .entry)) port room least later ⌝ }
+fn check_shared(text: &[u8], port: Port, room: usize, least: usize, later: Answer) -> Answer
+    ensures { λ r. ⌜ r ≡ checkShared (now (text .entry)) port room least later ⌝ }
 {
     if room < least {
         return Answer::Refused(SocksError::ShortOutput);
     }
-    if lacks_host(host) {
+    if text.len() == 0 {
         return Answer::Refused(SocksError::MissingHost);
     }
-    if has_forbidden(host) {
+    if has_forbidden(text) {
         return Answer::Refused(SocksError::HostByte);
     }
     if lacks_port(port) {
@@ -130,10 +112,10 @@ fn lookup_failed(wanted: bool, name: bool, none: bool) -> bool
 }
 
 // What both versions refuse last: a name that no request takes, and one to be looked up that no record serves.
-fn check_name(name: bool, host: &[u8], most: usize, lookup: bool, none: bool) -> Answer
-    ensures { λ r. ⌜ r ≡ checkName name (now (host .entry)) most lookup none ⌝ }
+fn check_name(name: bool, text: &[u8], most: usize, lookup: bool, none: bool) -> Answer
+    ensures { λ r. ⌜ r ≡ checkName name (now (text .entry)) most lookup none ⌝ }
 {
-    if name_too_long(name, host, most) {
+    if name_too_long(name, text, most) {
         return Answer::Refused(SocksError::HostTooLong);
     }
     if lookup_failed(lookup, name, none) {
@@ -151,31 +133,43 @@ fn refuse_if(test: bool, error: SocksError, later: Answer) -> Answer
     later
 }
 
-// The checks of a v5 opening, for an output of so many bytes.
+// The checks of a v5 opening, for a host without its brackets, what it is as address text, and an output of so many bytes.
 pub fn check5(
     config: SocksConfig,
-    host: &[u8],
+    text: &[u8],
+    kind: AddressKind,
     port: Port,
     user: &[u8],
     password: &[u8],
     chosen: Lookup,
     room: usize,
 ) -> Answer
-    ensures { λ r. ⌜ r ≡ check5 room (record { config = config; host = now (host .entry); port = port; user = now (user .entry); password = now (password .entry); records = recordsOf chosen }) ⌝ }
+    ensures { λ r. ⌜ r ≡ checkBy5 room config (now (text .entry)) kind port (now (user .entry)) (now (password .entry)) (recordsOf chosen) ⌝ }
 {
-    let name = is_name(kind_of(host));
-    let named = check_name(name, host, 255, config.local_dns, finds_none(chosen));
+    let named = check_name(
+        is_name(kind),
+        text,
+        255,
+        config.local_dns,
+        finds_none(chosen),
+    );
     let long = credentials_too_long(config.proxy_auth, user, password);
     let own = refuse_if(long, SocksError::CredentialTooLong, named);
-    check_shared(host, port, room, 778, own)
+    check_shared(text, port, room, 778, own)
 }
 
-// The checks of a v4 opening, for an output of so many bytes.
-pub fn check4(local_dns: bool, host: &[u8], port: Port, chosen: Lookup, room: usize) -> Answer
-    ensures { λ r. ⌜ r ≡ check4 room (record { localDns = «local_dns»; host = now (host .entry); port = port; records = recordsOf chosen }) ⌝ }
+// The checks of a v4 opening, in the same way.
+pub fn check4(
+    local_dns: bool,
+    text: &[u8],
+    kind: AddressKind,
+    port: Port,
+    chosen: Lookup,
+    room: usize,
+) -> Answer
+    ensures { λ r. ⌜ r ≡ checkBy4 room «local_dns» (now (text .entry)) kind port (recordsOf chosen) ⌝ }
 {
-    let kind = kind_of(host);
-    let named = check_name(is_name(kind), host, 1014, local_dns, finds_no_four(chosen));
+    let named = check_name(is_name(kind), text, 1014, local_dns, finds_no_four(chosen));
     let own = refuse_if(is_ipv6(kind), SocksError::IpV6, named);
-    check_shared(host, port, room, 1024, own)
+    check_shared(text, port, room, 1024, own)
 }

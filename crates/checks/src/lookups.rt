@@ -1,37 +1,49 @@
-// How many records of a lookup's list an opening reads.
+// What a host is as address text, and how many records of a lookup's list an opening reads.
 ghost use mathlib.Core.Path.{_≡_};
 ghost use mathlib.Core.Bool.{_&&_, not, cond};
+ghost use mathlib.Core.List.{[]};
 ghost use lib.ListN.{length};
 ghost use lib.Dec.{ltb};
 ghost use Rattle.protocol.specs.Host.{strip};
 ghost use Rattle.protocol.specs.AddressReading.{destinationOf};
+ghost use Rattle.protocol.specs.Requests.{kindOf};
 ghost use Rattle.protocol.specs.Opening.{isName};
+ghost use Rattle.addresses.specs.Answers.{addressText};
 ghost use Rattle.checks.specs.Lookups.{looksUp};
 use crate::checks::is_name;
-use crate::checks::kind_of;
+use addresses::AddressText;
+use protocol::AddressKind;
 use protocol::SocksConfig;
 
+// What a host stands for, read once for all that an opening does with it.
+pub fn read_host(host: &[u8]) -> AddressText
+    ensures { λ r. ⌜ r ≡ addressText (destinationOf (strip (now (host .entry)))) ⌝ }
+{
+    addresses::read_address(host::strip_ipv6_brackets(host))
+}
+
 // Whether the host is a name that a request takes.
-fn is_short_name(host: &[u8], most: usize) -> bool
-    ensures { λ r. ⌜ r ≡ (not (ltb most (length (strip (now (host .entry))))) && isName (destinationOf (strip (now (host .entry))))) ⌝ }
+fn is_short_name(host: &[u8], kind: AddressKind, most: usize) -> bool
+    ensures { λ r. ⌜ r ≡ (not (ltb most (length (strip (now (host .entry))))) && isName (kindOf kind [])) ⌝ }
 {
     if most < host::strip_ipv6_brackets(host).len() {
         return false;
     }
-    is_name(kind_of(host))
+    is_name(kind)
 }
 
-fn looks_up(local_dns: bool, host: &[u8], most: usize) -> bool
-    ensures { λ r. ⌜ r ≡ looksUp «local_dns» (now (host .entry)) most ⌝ }
+fn looks_up(local_dns: bool, host: &[u8], read: AddressText, most: usize) -> bool
+    ensures { λ r. ⌜ (read ≡ addressText (destinationOf (strip (now (host .entry)))) → r ≡ looksUp «local_dns» (now (host .entry)) most) ⌝ }
 {
-    local_dns && is_short_name(host, most)
+    let kind = read.kind;
+    local_dns && is_short_name(host, kind, most)
 }
 
 // Over v5 the first record is taken.
-pub fn wanted5(config: SocksConfig, host: &[u8]) -> usize
-    ensures { λ r. ⌜ r ≡ cond (looksUp (config .«local_dns») (now (host .entry)) 255) 1 0 ⌝ }
+pub fn wanted5(config: SocksConfig, host: &[u8], read: AddressText) -> usize
+    ensures { λ r. ⌜ (read ≡ addressText (destinationOf (strip (now (host .entry)))) → r ≡ cond (looksUp (config .«local_dns») (now (host .entry)) 255) 1 0) ⌝ }
 {
-    if looks_up(config.local_dns, host, 255) {
+    if looks_up(config.local_dns, host, read, 255) {
         1
     } else {
         0
@@ -39,10 +51,10 @@ pub fn wanted5(config: SocksConfig, host: &[u8]) -> usize
 }
 
 // Over v4 the first of family four is taken, wherever it stands.
-pub fn wanted4(local_dns: bool, host: &[u8]) -> usize
-    ensures { λ r. ⌜ r ≡ cond (looksUp «local_dns» (now (host .entry)) 1014) 0xFFFFFFFFFFFFFFFF 0 ⌝ }
+pub fn wanted4(local_dns: bool, host: &[u8], read: AddressText) -> usize
+    ensures { λ r. ⌜ (read ≡ addressText (destinationOf (strip (now (host .entry)))) → r ≡ cond (looksUp «local_dns» (now (host .entry)) 1014) 0xFFFFFFFFFFFFFFFF 0) ⌝ }
 {
-    if looks_up(local_dns, host, 1014) {
+    if looks_up(local_dns, host, read, 1014) {
         usize::MAX
     } else {
         0

@@ -1,7 +1,7 @@
 // The host: its brackets and its bytes.
 ghost use mathlib.Core.Path.{_≡_};
-ghost use mathlib.Core.Bool.{_&&_};
-ghost use Rattle.protocol.specs.Host.{strip, allowed, allAllowed};
+ghost use Prim.Native.Nat.{max};
+ghost use Rattle.protocol.specs.Host.{strip, allAllowed};
 
 // The host without `[` and `]`, where both stand at its ends: a part of the caller's slice.
 pub fn strip_ipv6_brackets(host: &[u8]) -> &[u8]
@@ -20,27 +20,22 @@ pub fn strip_ipv6_brackets(host: &[u8]) -> &[u8]
     &host[1..n - 1]
 }
 
-fn is_allowed(byte: u8) -> bool
-    ensures { λ r. ⌜ r ≡ allowed byte ⌝ }
+fn higher(a: u8, b: u8) -> u8
+    ensures { λ r. ⌜ r ≡ max a b ⌝ }
 {
-    0x21 <= byte && byte <= 0x7E
+    if a < b { b } else { a }
 }
 
-fn both(a: bool, b: bool) -> bool
-    ensures { λ r. ⌜ r ≡ a && b ⌝ }
-{
-    a && b
-}
-
-// Whether a host may have each of these bytes. All are tested: without an early end the compiler tests many at once.
+// Whether a host may have each of these bytes: the highest of their distances from 21 tells. Without an early end the compiler takes
+// many bytes at once.
 pub fn all_allowed(host: &[u8]) -> bool
     ensures { λ r. ⌜ r ≡ allAllowed (now (host .entry)) ⌝ }
 {
-    let mut all = true;
+    let mut top: u8 = 0;
     let mut i: usize = 0;
     while i < host.len() {
-        all = both(all, is_allowed(host[i]));
+        top = higher(top, std::num::wrapping_sub_u8(host[i], 0x21));
         i += 1;
     }
-    all
+    top <= 0x5D
 }

@@ -29,19 +29,27 @@ fn total(out: &[u8], n: usize) -> u64
     requires { ⌜ (n ≤ length (now out)) × (length (now out) ≤ 1024) ⌝ }
     ensures { λ r. ⌜ r ≡ sumOf (take n (now (out .entry))) ⌝ }
 {
-    let mut sum: u64 = 0;
+    let mut sum: u32 = 0;
     let mut i = 0;
     while i < n {
-        sum += out[i] as u64;
+        sum += out[i] as u32;
         i += 1;
     }
-    sum
+    sum as u64
 }
 
 fn add(tally: Tally, out: &[u8], n: usize, state: u32) -> Tally
     requires { ⌜ (n ≤ length (now out)) × (length (now out) ≤ 1024) ⌝ }
     ensures { λ r. ⌜ r ≡ added tally (take n (now (out .entry))) state ⌝ }
 {
+    if n == 0 {
+        return Tally {
+            state,
+            opened: tally.opened,
+            sent: tally.sent,
+            sum: tally.sum,
+        };
+    }
     Tally {
         state,
         opened: tally.opened,
@@ -92,7 +100,7 @@ fn feed(from: Tally, opened: Opened, replies: &[u8], single: bool, out: &mut [u8
     settle(tally, session)
 }
 
-// A fresh output.
+// An output that all handshakes share.
 fn output() -> [u8; 1024]
     ensures { λ r. ⌜ 1024 ≡ length r ⌝ }
 {
@@ -189,8 +197,8 @@ fn replies_for(v5: bool, credentials: bool) -> Part
 }
 
 // The next handshake. Its name is the start of the longest, its replies are a part of all.
-fn run_one(tally: Tally, longest: &[u8], replies: &[u8], single: bool) -> Tally
-    requires { ⌜ (200 ≤ length (now longest)) × (30 ≤ length (now replies)) ⌝ }
+fn run_one(tally: Tally, longest: &[u8], replies: &[u8], single: bool, out: &mut [u8]) -> Tally
+    requires { ⌜ (200 ≤ length (now longest)) × (30 ≤ length (now replies)) × (length (now out) ≤ 1024) ⌝ }
 {
     let choice = draws::choose(tally.state);
     let n = choice.name;
@@ -200,17 +208,17 @@ fn run_one(tally: Tally, longest: &[u8], replies: &[u8], single: bool) -> Tally
         sent: tally.sent,
         sum: tally.sum,
     };
-    let mut out = output();
-    let opened = begin(choice.v5, choice.credentials, &longest[..n], &mut out);
+    let opened = begin(choice.v5, choice.credentials, &longest[..n], out);
     let part = replies_for(choice.v5, choice.credentials);
     let from = part.from;
     let to = part.to;
-    feed(drawn, opened, &replies[from..to], single, &mut out)
+    feed(drawn, opened, &replies[from..to], single, out)
 }
 
 fn run(count: u64, seed: u32, single: bool) -> Tally {
     let longest = [0x61u8; 200];
     let replies = all_replies();
+    let mut out = output();
     let mut tally = Tally {
         state: seed,
         opened: 0,
@@ -219,7 +227,7 @@ fn run(count: u64, seed: u32, single: bool) -> Tally {
     };
     let mut left = count;
     while left > 0 {
-        tally = run_one(tally, &longest, &replies, single);
+        tally = run_one(tally, &longest, &replies, single, &mut out);
         left -= 1;
     }
     tally

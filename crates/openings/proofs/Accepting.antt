@@ -1,142 +1,182 @@
--- An accepted opening: what its checks give, and its talk fed with no byte.
+-- What the checks of an accepted opening give, and what an opening returns by what it keeps and sends.
 use Prim.Native.Nat.{ℕ, _+_, _≤_, zero-le}
 use native.Mathlib.Nat.{zero-add}
 use native.Mathlib.Omega.{arith}
-use mathlib.Core.Path.{_≡_, refl, ap, sym, _∙_}
-use mathlib.Core.Bool.{Bool, true, false, cond, not, _&&_, _||_}
-use mathlib.Core.List.{List, [], _++_}
-use lib.ListN.{length, drop, replicate}
+use mathlib.Core.Path.{_≡_, refl, ap, sym, _∙_, subst}
+use mathlib.Core.Bool.{Bool, true, false, cond, not, _&&_, _||_, true≢false}
+use mathlib.Core.List.{List, [], _++_, append-assoc, append-nil}
+use lib.ListN.{length, take, drop, replicate, length-append}
+use lib.Seq.{take-at}
 use lib.Dec.{ltb}
 use borrow.Author.Tests.{ltb-false}
-use Rattle.protocol.specs.declared.SocksError.{SocksError}
-use Rattle.protocol.specs.declared.SocksError.the-variants.{ShortOutput, MissingHost, HostByte, MissingPort, CredentialTooLong, HostTooLong, IpV6, DnsFailure, Settled}
+use Rattle.protocol.specs.declared.AddressKind.{AddressKind}
+use Rattle.protocol.specs.declared.AuthMethod.the-variants.{NoAuth, UserPass}
 use Rattle.protocol.specs.declared.Answer.{Answer}
 use Rattle.protocol.specs.declared.Answer.the-variants.{Accepted, Refused}
-use Rattle.protocol.specs.declared.Address.{Address}
-use Rattle.protocol.specs.Host.{strip, allAllowed}
-use Rattle.protocol.specs.AddressReading.{Destination, destinationOf}
-use Rattle.protocol.specs.Opening.{V5, V4, refuse, isEmpty, isMissing, isName, isNone, firstRecord, firstFour, check5, check4, Opening, v5, asked5, portNumber, credentialsIf, opening5}
+use Rattle.protocol.specs.declared.Port.{Port}
+use Rattle.protocol.specs.declared.Record.{Record}
+use Rattle.protocol.specs.declared.SocksConfig.{SocksConfig}
+use Rattle.protocol.specs.declared.SocksError.{SocksError}
+use Rattle.protocol.specs.declared.SocksError.the-variants.{ShortOutput, MissingHost, HostByte, MissingPort, CredentialTooLong, HostTooLong, IpV6, DnsFailure}
+use Rattle.protocol.specs.Host.{allAllowed}
+use Rattle.protocol.specs.Requests.{kindOf, negotiationReq, authenticationReq, proxyReq, request}
+use Rattle.protocol.specs.Replies.{decide}
+use Rattle.protocol.specs.Opening.{refuse, isEmpty, isMissing, isName, isIpv6, isNone, firstRecord, firstFour, Opening, v5, v4, noAuth, userPass, Limits, openingRoom}
 use Rattle.protocol.specs.Client as client
+use Rattle.talk.specs.Talk.{feed, waiting}
+use Rattle.talk.proofs.Feed.{same-fed}
+use Rattle.wire.specs.Written.{overwrite, Wrote}
+use Rattle.wire.proofs.Laws.{wrote-length}
+use Rattle.sending.specs.declared.Lengths.{Lengths}
+use Rattle.sending.specs.declared.Requests.{Requests}
 use Rattle.sending.specs.declared.Stage.{Stage}
-use Rattle.sending.specs.declared.Stage.the-variants.{Awaiting, Open, Failed}
-use Rattle.sending.specs.declared.Kept.{Kept}
-use Rattle.session.specs.declared.Session.{Session}
-use Rattle.session.specs.declared.Opened.{Opened}
-use Rattle.sending.specs.Stages.{viewAt}
-use Rattle.session.specs.Session.{packed}
+use Rattle.sending.specs.declared.Stage.the-variants.{Awaiting, Failed}
 use Rattle.sending.specs.Stages.{SideFed}
-use Rattle.session.specs.Calls.{refusal, opened, Opens, addressOf, keptWith, keptBy, nothingKept, emptySession, openBy}
-use Rattle.openings.specs.Accepted.{Short5, Short4}
-use Rattle.sending.specs.Due.{Due, Sends}
-use Rattle.session.proofs.Deliveries.{at-start, sent-inside}
-use Rattle.talk.specs.Talk.{feed}
-
-pub no : true ≡ false → ⊥
-no z = let y : _≡_ {A = ℕ} 0 1 = cc in omega arith
+use Rattle.session.specs.declared.Opened.{Opened}
+use Rattle.session.specs.Calls.{keptBy, nothingKept, begins, openBy, Opens}
+use Rattle.checks.specs.Checks.{checkShared, checkName, checkBy5, checkBy4}
+use Rattle.openings.specs.declared.Begun.{Begun}
+use Rattle.openings.specs.Begun.{firstReply, goesFirst, stageBy, keptIf, Begins, openedWith}
 
 -- ---- the checks
 
-accepts-not : {e : SocksError} → Refused e ≡ Accepted → ⊥
-accepts-not p = let y : _≡_ {A = ℕ} 0 1 = cc in omega arith
-
 passed : (b : Bool) (e : SocksError) (later : Answer) → refuse b e later ≡ Accepted → (b ≡ false) × (later ≡ Accepted)
-passed true e later p = absurd (accepts-not p)
+passed true e later p = let y : _≡_ {A = ℕ} 0 1 = cc in absurd (omega arith)
 passed false e later p = (refl, p)
 
-short-name : (b : Bool) (n most : ℕ) → (b && ltb most n) ≡ false → b ≡ true → n ≤ most
-short-name true n most p q = ltb-false most n p
-short-name false n most p q = absurd (no (sym q))
+passed-shared : (text : List ℕ) (port : Port) (room least : ℕ) (later : Answer) → checkShared text port room least later ≡ Accepted → (least ≤ room) × (later ≡ Accepted)
+passed-shared text port room least later e =
+    let p₁ = passed (ltb room least) ShortOutput _ e in
+    let p₂ = passed (isEmpty text) MissingHost _ (p₁ .1) in
+    let p₃ = passed (not (allAllowed text)) HostByte _ (p₂ .1) in
+    (ltb-false room least (p₁ .0), passed (isMissing port) MissingPort later (p₃ .1) .1)
+
+-- a test that does not hold where a condition does
+unless : (b c : Bool) → (b && c) ≡ false → b ≡ true → c ≡ false
+unless true c p q = p
+unless false c p q = absurd (true≢false (sym q))
 
 neither : (a b : Bool) → (a || b) ≡ false → (a ≡ false) × (b ≡ false)
-neither true b p = absurd (no p)
+neither true b p = absurd (true≢false p)
 neither false b p = (refl, p)
 
-short-credentials : (b : Bool) (u p : List ℕ) → (b && (ltb 255 (length u) || ltb 255 (length p))) ≡ false → (length (cond b u []) ≤ 255) × (length (cond b p []) ≤ 255)
-short-credentials true u p e =
-    let n = neither (ltb 255 (length u)) (ltb 255 (length p)) e in
-    (ltb-false 255 (length u) (n .0), ltb-false 255 (length p) (n .1))
-short-credentials false u p e = (zero-le, zero-le)
+passed-name : (name : Bool) (text : List ℕ) (most : ℕ) (lookup none : Bool) → checkName name text most lookup none ≡ Accepted → name ≡ true → length text ≤ most
+passed-name name text most lookup none e q = ltb-false most (length text) (unless name (ltb most (length text)) (passed (name && ltb most (length text)) HostTooLong (refuse (lookup && (name && none)) DnsFailure Accepted) e .0) q)
 
-pub accepted5 : (room : ℕ) (a : V5) → check5 room a ≡ Accepted → (778 ≤ room) × Short5 a
-unfolding check5
-accepted5 room a e =
-    let p₁ = passed (ltb room 778) ShortOutput _ e in
-    let p₂ = passed (isEmpty (a .host) || isEmpty (strip (a .host))) MissingHost _ (p₁ .1) in
-    let p₃ = passed (not (allAllowed (strip (a .host)))) HostByte _ (p₂ .1) in
-    let p₄ = passed (isMissing (a .port)) MissingPort _ (p₃ .1) in
-    let p₅ = passed _ CredentialTooLong _ (p₄ .1) in
-    let p₆ = passed (isName (destinationOf (strip (a .host))) && ltb 255 (length (strip (a .host)))) HostTooLong (refuse (a .config .«local_dns» && (isName (destinationOf (strip (a .host))) && isNone (firstRecord (a .records)))) DnsFailure Accepted) (p₅ .1) in
-    let s = short-credentials (a .config .«proxy_auth») (a .user) (a .password) (p₅ .0) in (
-      ltb-false room 778 (p₁ .0),
-      record {
-        name = short-name (isName (destinationOf (strip (a .host)))) (length (strip (a .host))) 255 (p₆ .0);
-        user = s .0;
-        password = s .1;
-      },
-    )
+module _ (room : ℕ) (text : List ℕ) (kind : AddressKind) (port : Port) (records : List Record) where
+  pub accepted5 : (config : SocksConfig) (user password : List ℕ) → checkBy5 room config text kind port user password records ≡ Accepted
+      → (778 ≤ room) × (config .«proxy_auth» ≡ true → (length user ≤ 255) × (length password ≤ 255)) × (isName (kindOf kind []) ≡ true → length text ≤ 255)
+  accepted5 config user password e =
+      let named = checkName (isName (kindOf kind [])) text 255 (config .«local_dns») (isNone (firstRecord records)) in
+      let long = ltb 255 (length user) || ltb 255 (length password) in
+      let p = passed-shared text port room 778 (refuse (config .«proxy_auth» && long) CredentialTooLong named) e in
+      let q = passed (config .«proxy_auth» && long) CredentialTooLong named (p .1) in (
+        p .0,
+        λ b. let n = neither (ltb 255 (length user)) (ltb 255 (length password)) (unless (config .«proxy_auth») long (q .0) b) in
+            (ltb-false 255 (length user) (n .0), ltb-false 255 (length password) (n .1)),
+        passed-name (isName (kindOf kind [])) text 255 (config .«local_dns») (isNone (firstRecord records)) (q .1),
+      )
 
-pub accepted4 : (room : ℕ) (a : V4) → check4 room a ≡ Accepted → (1024 ≤ room) × Short4 a
-unfolding check4
-accepted4 room a e =
-    let p₁ = passed (ltb room 1024) ShortOutput _ e in
-    let p₂ = passed (isEmpty (a .host) || isEmpty (strip (a .host))) MissingHost _ (p₁ .1) in
-    let p₃ = passed (not (allAllowed (strip (a .host)))) HostByte _ (p₂ .1) in
-    let p₄ = passed (isMissing (a .port)) MissingPort _ (p₃ .1) in
-    let p₅ = passed _ IpV6 _ (p₄ .1) in
-    let p₆ = passed (isName (destinationOf (strip (a .host))) && ltb 1014 (length (strip (a .host)))) HostTooLong (refuse (a .localDns && (isName (destinationOf (strip (a .host))) && isNone (firstFour (a .records)))) DnsFailure Accepted) (p₅ .1) in (
-      ltb-false room 1024 (p₁ .0),
-      record { name = short-name (isName (destinationOf (strip (a .host)))) (length (strip (a .host))) 1014 (p₆ .0); not-ipv6 = p₅ .0 },
-    )
+  pub accepted4 : (localDns : Bool) → checkBy4 room localDns text kind port records ≡ Accepted
+      → (1024 ≤ room) × (isIpv6 (kindOf kind []) ≡ false) × (isName (kindOf kind []) ≡ true → length text ≤ 1014)
+  accepted4 localDns e =
+      let named = checkName (isName (kindOf kind [])) text 1014 localDns (isNone (firstFour records)) in
+      let p = passed-shared text port room 1024 (refuse (isIpv6 (kindOf kind [])) IpV6 named) e in
+      let q = passed (isIpv6 (kindOf kind [])) IpV6 named (p .1) in
+      (p .0, q .0, passed-name (isName (kindOf kind [])) text 1014 localDns (isNone (firstFour records)) (q .1))
 
--- a talk fed with no byte, by what it sends and the stage behind it
-abbrev pub fedBy : Due → SideFed
-fedBy d = record { session = viewAt (d .stage) []; sent = d .sent; place = 0 }
+-- ---- what goes at the opening
+
+abbrev goes : Requests → List ℕ
+goes k = take (goesFirst (k .lengths)) (k .bytes)
+
+goes-first : (q w z : List ℕ) → take (length q) ((q ++ w) ++ z) ≡ q
+goes-first q w z = rw (append-assoc q w z) (take-at q (w ++ z) (length q) refl)
+
+goes-all : (q a p z : List ℕ) → take (length q + length a + length p) ((q ++ (a ++ p)) ++ z) ≡ q ++ (a ++ p)
+goes-all q a p z = take-at (q ++ (a ++ p)) z (length q + length a + length p) (omega (arith, length-append q (a ++ p), length-append a p))
+
+-- the talk fed with no byte
+abbrev fedBy : Opening → SideFed
+fedBy o = record { session = waiting (firstReply o) []; sent = goes (keptBy o); place = 0 }
+
+begun-fed : (o : Opening) → feed (client.side o) (client.begun o) [] ≡ fedBy o
+unfolding feed decide
+begun-fed (v5 noAuth d port false) = same-fed _ _ refl (append-nil (negotiationReq NoAuth) ∙ sym (goes-first (negotiationReq NoAuth) (proxyReq d port) _)) refl
+begun-fed (v5 noAuth d port true) =
+    same-fed _ _ refl (ap (λ (l : List ℕ). negotiationReq NoAuth ++ l) (append-nil (proxyReq d port)) ∙ sym (goes-all (negotiationReq NoAuth) [] (proxyReq d port) _)) refl
+begun-fed (v5 (userPass u p) d port false) =
+    same-fed _ _ refl (append-nil (negotiationReq UserPass) ∙ sym (goes-first (negotiationReq UserPass) (authenticationReq u p ++ proxyReq d port) _)) refl
+begun-fed (v5 (userPass u p) d port true) =
+    same-fed _ _ refl
+    (ap (λ (l : List ℕ). negotiationReq UserPass ++ (authenticationReq u p ++ l)) (append-nil (proxyReq d port)) ∙ sym (goes-all (negotiationReq UserPass) (authenticationReq u p) (proxyReq d port) _))
+    refl
+begun-fed (v4 d port) = same-fed _ _ refl (append-nil (request d port) ∙ sym (goes-first (request d port) [] _)) refl
+
+-- ---- what an opening comes to
+
+pub all-first : (l : Lengths) → goesFirst l ≤ l .first + l .authentication + l .proxy
+all-first l = go (l .optimistic) (l .first) (l .authentication) (l .proxy)
+  where
+    go : (b : Bool) (x y z : ℕ) → cond b (x + y + z) x ≤ x + y + z
+    go true x y z = omega arith
+    go false x y z = omega arith
+
+within : (o : Opening) → Limits o → let l = keptBy o .lengths in l .first + l .authentication + l .proxy ≤ openingRoom o
+within (v5 noAuth d port o) l = omega (arith, l .0, l .1)
+within (v5 (userPass u p) d port o) l = omega (arith, l .0, l .1, l .2)
+within (v4 d port) l = omega (arith, l)
+
+small-room : (o : Opening) → openingRoom o ≤ 1024
+small-room (v5 c d port o) = omega arith
+small-room (v4 d port) = omega arith
+
+-- an accepted opening within its limits, by what was kept
+pub begins-accepted : (o : Opening) → Limits o → {stage : Stage} {l : Lengths} {bytes : List ℕ} → stage ≡ Awaiting (firstReply o) → record { lengths = l; bytes = bytes } ≡ keptBy o
+    → Begins Accepted o (openingRoom o) (record { answer = Accepted; stage = stage; lengths = l }) bytes
+begins-accepted o h {stage} {l} s k =
+    let w : l .first + l .authentication + l .proxy ≤ openingRoom o =
+    subst (λ (q : Requests). q .lengths .first + q .lengths .authentication + q .lengths .proxy ≤ openingRoom o) (sym k) (within o h) in
+    record { answered = refl; staged = s; keeps = k; inside = omega (arith, w, small-room o); fits = omega (arith, w, all-first l) }
+
+pub begins-refused : (o : Opening) (room : ℕ) {x : Answer} {e : SocksError} {r : Begun} {bytes : List ℕ} → x ≡ Refused e
+    → r ≡ record { answer = Refused e; stage = Failed e; lengths = nothingKept .lengths } → bytes ≡ replicate 1024 0 → Begins x o room r bytes
+begins-refused o room p q z = rw (p, q) (record { answered = refl; staged = refl; keeps = λ i. record { lengths = nothingKept .lengths; bytes = z i }; inside = zero-le; fits = zero-le })
+
+-- the same by an equal answer and opening, with more room
+pub begins-as : {x y : Answer} {o p : Opening} {m n : ℕ} {r : Begun} {bytes : List ℕ} → x ≡ y → o ≡ p → m ≤ n → Begins x o m r bytes → Begins y p n r bytes
+begins-as {x} {y} {o} {p} {m} {n} {r} {bytes} e f h b = rw (← e, ← f) (record { answered = b .answered; staged = b .staged; keeps = b .keeps; inside = b .inside; fits = omega (arith, b .fits) })
 
 -- ---- what an opening returns
 
-pub packed-fresh : (k : Kept) (stage : Stage) → _≡_ {A = Session} (record { stage = stage; held = 0; hold = replicate 261 0; kept = k }) (packed (emptySession k Settled) (viewAt stage []))
-packed-fresh k (Awaiting e) = refl
-packed-fresh k Open = refl
-packed-fresh k (Failed x) = refl
+abbrev returned : Answer → Opening → ℕ → Opened
+returned x o n = openedWith (record { answer = x; stage = stageBy x o; lengths = keptIf x o .lengths }) (keptIf x o .bytes) n
 
-same-opened : {a : Answer} {n n′ : ℕ} {s s′ : Session} → n ≡ n′ → s ≡ s′ → _≡_ {A = Opened} (record { answer = a; sent = n; session = s }) (record { answer = a; sent = n′; session = s′ })
-same-opened {a} q r = λ i. record { answer = a; sent = q i; session = r i }
+module _ (o : Opening) {out out′ : List ℕ} {n : ℕ} where
+  opens-by : (x : Answer) → Wrote out 0 (goes (keptIf x o)) n out′ → Opens (openBy x o out) (returned x o n) out′
+  unfolding overwrite
+  opens-by Accepted w =
+      let bs = goes (keptBy o) in
+      let c : Opens (begins o (fedBy o) out) (returned Accepted o n) out′ = record {
+        returned = λ i. record { answer = Accepted; sent = (w .place ∙ zero-add (length bs)) i; session = returned Accepted o n .session };
+        output = w .bytes ∙ ap (λ (k : ℕ). bs ++ drop k out) (zero-add (length bs));
+        inside = omega (arith, w .place, w .inside, wrote-length w);
+      } in
+      subst (λ (f : SideFed). Opens (begins o f out) (returned Accepted o n) out′) (sym (begun-fed o)) c
+  opens-by (Refused e) w =
+      record {
+        returned = λ i. record { answer = Refused e; sent = w .place i; session = returned (Refused e) o n .session };
+        output = w .bytes;
+        inside = omega (arith, w .place, w .inside, wrote-length w);
+      }
 
--- what was sent, the stage behind it and what is kept make the answer
-pub begins-by : (o : Opening) (d : Due) {out out′ : List ℕ} {stage : Stage} {next : ℕ} {s : Session} → feed (client.side o) (client.begun o) [] ≡ fedBy d → Sends d out 0 stage next out′
-    → s ≡ packed (emptySession (keptBy o) Settled) (viewAt stage []) → Opens (openBy Accepted o out) (record { answer = Accepted; sent = next; session = s }) out′
-begins-by o d {out} {out′} {stage} {next} {s} e w q =
-    let f = ap (λ (g : SideFed). g .sent) e in
-    record {
-      returned =
-          same-opened (w .wrote .place ∙ zero-add _ ∙ sym (ap length f))
-          (q ∙ ap (λ (t : Stage). packed (emptySession (keptBy o) Settled) (viewAt t [])) (w .staged) ∙ sym (ap (λ (g : SideFed). packed (emptySession (keptBy o) Settled) (g .session)) e));
-      output = at-start (w .wrote) ∙ ap (λ (b : List ℕ). b ++ drop (length b) out) (sym f);
-      inside = sent-inside (w .wrote);
-    }
+  opens-with : {x : Answer} {room : ℕ} {r : Begun} {bytes : List ℕ} → Begins x o room r bytes → Wrote out 0 (take (goesFirst (r .lengths)) bytes) n out′
+      → Opens (openBy x o out) (openedWith r bytes n) out′
+  opens-with {x} {room} {r} {bytes} b w =
+      let p : openedWith r bytes n ≡ returned x o n =
+      λ i. record { answer = b .answered i; sent = n; session = record { stage = b .staged i; held = 0; hold = replicate 261 0; requests = b .keeps i } } in
+      subst (λ (y : Opened). Opens (openBy x o out) y out′) (sym p) (opens-by x (subst (λ (q : Requests). Wrote out 0 (goes q) n out′) (b .keeps) w))
 
-pub refuses : (x : Answer) (o : Opening) (out : List ℕ) {e : SocksError} {r : Opened} → x ≡ Refused e → r ≡ opened (refusal e (emptySession nothingKept e) []) → Opens (openBy x o out) r out
-refuses x o out p q = rw p (record { returned = q; output = refl; inside = rw q zero-le })
-
-pub accepts : (x : Answer) (o : Opening) (out : List ℕ) {out′ : List ℕ} {r : Opened} → x ≡ Accepted → Opens (openBy Accepted o out) r out′ → Opens (openBy x o out) r out′
-accepts x o out p q = rw p q
-
--- ---- what an accepted opening over v5 keeps
-
-kept-credentials : (b : Bool) (u p : List ℕ) (d : Destination) (port : ℕ) (o : Bool) → keptBy (v5 (credentialsIf b u p) d port o) ≡ keptWith o (addressOf d port) (cond b u []) (cond b p [])
-kept-credentials true u p d port o = refl
-kept-credentials false u p d port o = refl
-
-pub keeps5 : (a : V5) {k : Kept} {x : Address} {n : ℕ} {u p : List ℕ} → k ≡ keptWith (a .config .optimistic) x u p
-    → x ≡ addressOf (asked5 (a .config .«local_dns») (a .records) (destinationOf (strip (a .host)))) n → n ≡ portNumber (a .port)
-    → u ≡ cond (a .config .«proxy_auth») (a .user) [] → p ≡ cond (a .config .«proxy_auth») (a .password) [] → k ≡ keptBy (opening5 a)
-unfolding opening5
-keeps5 a {k} {x} {n} {u} {p} e f g h i =
-    let o = a .config .optimistic in
-    let d = asked5 (a .config .«local_dns») (a .records) (destinationOf (strip (a .host))) in
-    e ∙ ap (λ (y : Address). keptWith o y u p) (f ∙ ap (λ (m : ℕ). addressOf d m) g) ∙ ap (λ (v : List ℕ). keptWith o (addressOf d (portNumber (a .port))) v p) h
-    ∙ ap (λ (v : List ℕ). keptWith o (addressOf d (portNumber (a .port))) (cond (a .config .«proxy_auth») (a .user) []) v) i
-    ∙ sym (kept-credentials (a .config .«proxy_auth») (a .user) (a .password) d (portNumber (a .port)) o)
-
-pub refused-is : (e : SocksError) {k : Kept} {s : Session} → k ≡ nothingKept → s ≡ packed (emptySession k Settled) (viewAt (Failed e) []) → record { answer = Refused e; sent = 0; session = s } ≡ opened (refusal e (emptySession nothingKept e) [])
-refused-is e p q = same-opened refl (q ∙ ap (λ (j : Kept). packed (emptySession j Settled) (viewAt (Failed e) [])) p)
+pub opens : {x y : Answer} {o p : Opening} {room : ℕ} {r : Begun} {bytes out out′ : List ℕ} {n : ℕ} {s : Opened} → x ≡ y → o ≡ p → Begins x o room r bytes
+    → Wrote out 0 (take (goesFirst (r .lengths)) bytes) n out′ → s ≡ openedWith r bytes n → Opens (openBy y p out) s out′
+opens {o = o} e f b w q = rw (← e, ← f, q) (opens-with o b w)

@@ -1,4 +1,4 @@
-pub mod Keeping
+pub mod Targets
+pub mod KeptBy
 pub mod Accepting
 pub mod Records
-pub mod KeptBy

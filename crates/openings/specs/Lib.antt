@@ -1,1 +1,3 @@
-pub mod Accepted
+pub mod Asked
+pub mod Begun
+pub mod Kept

@@ -1,101 +1,43 @@
-// What an opening keeps: the destination asked for, and the credentials.
+// What the openings of both versions share: what is asked for, and what an opening keeps and sends.
 ghost use mathlib.Core.Path.{_≡_};
-ghost use mathlib.Core.Bool.{true, cond, _&&_};
-ghost use mathlib.Core.List.{[]};
-ghost use Prim.Native.Nat.{_≤_};
+ghost use mathlib.Core.Bool.{_&&_};
+ghost use Prim.Native.Nat.{_+_, _≤_};
 ghost use lib.ListN.{length, take};
-ghost use Rattle.protocol.specs.Host.{strip};
-ghost use Rattle.protocol.specs.AddressReading.{ipv4, ipv6, domain, destinationOf};
-ghost use Rattle.protocol.specs.Requests.{kindOf};
-ghost use Rattle.protocol.specs.Opening.{recordFamily, firstRecord, isName, portNumber, orElse, asked5};
-ghost use Rattle.lookup.specs.Chosen.{recordsOf};
-ghost use Rattle.session.specs.Calls.{refusal, opened, padded, addressOf, keptWith, nothingKept, emptySession};
-ghost use Rattle.sending.specs.Stages.{viewAt};
-ghost use Rattle.session.specs.Session.{packed};
-ghost use Rattle.protocol.specs.declared.SocksError.the-variants as SocksError;
-use lookup::Lookup;
-use protocol::Address;
+ghost use Rattle.protocol.specs.Opening.{portNumber};
+ghost use Rattle.wire.specs.Written.{Wrote};
+ghost use Rattle.session.specs.Calls.{nothingKept};
+ghost use Rattle.openings.specs.Asked.{recordText, askedText};
+ghost use Rattle.openings.specs.Begun.{goesFirst, openedWith};
+ghost use Rattle.protocol.specs.declared.Answer.the-variants as Answer;
+ghost use Rattle.sending.specs.declared.Stage.the-variants as Stage;
+use addresses::AddressText;
 use protocol::AddressKind;
 use protocol::Answer;
 use protocol::Family;
 use protocol::Port;
 use protocol::Record;
 use protocol::SocksError;
-use sending::Kept;
+use sending::Lengths;
+use sending::Requests;
 use sending::Stage;
 use session::Opened;
 use session::Session;
+use wire::copy;
 
-// At most 255 bytes at the start of an array of zeros.
-fn padded(src: &[u8]) -> [u8; 255]
-    requires { ⌜ length (now src) ≤ 255 ⌝ }
-    ensures { λ r. ⌜ r ≡ padded 255 (now (src .entry)) ⌝ }
-{
-    let mut bytes = [0u8; 255];
-    wire::put(&mut bytes, 0, src);
-    bytes
-}
-
-fn narrow(n: usize) -> u8
-    requires { ⌜ n ≤ 255 ⌝ }
-    ensures { λ r. ⌜ r ≡ n ⌝ }
-{
-    n as u8
-}
-
-fn address(kind: AddressKind, src: &[u8], port: u16) -> Address
-    requires { ⌜ length (now src) ≤ 255 ⌝ }
-    ensures { λ r. ⌜ r ≡ addressOf (kindOf kind (now (src .entry))) port ⌝ }
-{
-    let len = narrow(src.len());
-    let bytes = padded(src);
-    Address {
-        kind: kind,
-        len: len,
-        bytes: bytes,
-        port: port,
-    }
-}
-
-// What is kept of an opening over v5.
-pub fn keep(optimistic: bool, address: Address, user: &[u8], password: &[u8]) -> Kept
-    requires { ⌜ (length (now user) ≤ 255) × (length (now password) ≤ 255) ⌝ }
-    ensures { λ r. ⌜ r ≡ keptWith optimistic address (now (user .entry)) (now (password .entry)) ⌝ }
-{
-    let n = narrow(user.len());
-    let m = narrow(password.len());
-    let first = padded(user);
-    let second = padded(password);
-    Kept {
-        optimistic: optimistic,
-        address: address,
-        user: first,
-        user_len: n,
-        password: second,
-        password_len: m,
-    }
-}
-
-fn ipv4_address(bytes: [u8; 16], port: u16) -> Address
-    ensures { λ r. ⌜ (r ≡ addressOf (ipv4 (take 4 bytes)) port) × (length bytes ≡ 16) ⌝ }
-{
-    address(AddressKind::Ipv4, &bytes[..4], port)
-}
-
-fn ipv6_address(bytes: [u8; 16], port: u16) -> Address
-    ensures { λ r. ⌜ r ≡ addressOf (ipv6 bytes) port ⌝ }
-{
-    address(AddressKind::Ipv6, &bytes, port)
-}
-
-fn recorded(found: Record, port: u16) -> Address
-    ensures { λ r. ⌜ r ≡ addressOf (recordFamily (found .family) (found .address)) port ⌝ }
+fn recorded(found: Record) -> AddressText
+    ensures { λ r. ⌜ r ≡ recordText found ⌝ }
 {
     let family = found.family;
     let bytes = found.address;
     match family {
-        Family::Four => ipv4_address(bytes, port),
-        Family::Six => ipv6_address(bytes, port),
+        Family::Four => AddressText {
+            kind: AddressKind::Ipv4,
+            bytes: bytes,
+        },
+        Family::Six => AddressText {
+            kind: AddressKind::Ipv6,
+            bytes: bytes,
+        },
     }
 }
 
@@ -105,32 +47,15 @@ pub fn both(a: bool, b: bool) -> bool
     a && b
 }
 
-// A name asked for: looked up, or as it is.
-fn named(name: &[u8], port: u16, lookup: bool, chosen: Lookup) -> Address
-    requires { ⌜ length (now name) ≤ 255 ⌝ }
-    ensures { λ r. ⌜ r ≡ addressOf (cond lookup (orElse (firstRecord (recordsOf chosen)) (domain (now (name .entry)))) (domain (now (name .entry)))) port ⌝ }
+// What is asked for: as it was read, or for a name the record that was found.
+pub fn asked(read: AddressText, found: bool, first: Record) -> AddressText
+    ensures { λ r. ⌜ r ≡ askedText read found first ⌝ }
 {
-    if both(lookup, chosen.found) {
-        let found = chosen.first;
-        return recorded(found, port);
-    }
-    address(AddressKind::Domain, name, port)
-}
-
-// The destination asked for over v5: typed, looked up, or a name.
-pub fn asked(host: &[u8], port: u16, lookup: bool, chosen: Lookup) -> Address
-    requires { ⌜ (isName (destinationOf (strip (now host))) ≡ true → length (strip (now host)) ≤ 255) ⌝ }
-    ensures { λ r. ⌜ r ≡ addressOf (asked5 lookup (recordsOf chosen) (destinationOf (strip (now (host .entry))))) port ⌝ }
-{
-    let text = host::strip_ipv6_brackets(host);
-    let read = addresses::read_address(text);
     let kind = read.kind;
-    let bytes = read.bytes;
-    match kind {
-        AddressKind::Ipv4 => ipv4_address(bytes, port),
-        AddressKind::Ipv6 => ipv6_address(bytes, port),
-        AddressKind::Domain => named(text, port, lookup, chosen),
+    if both(checks::checks::is_name(kind), found) {
+        return recorded(first);
     }
+    read
 }
 
 pub fn port_number(port: Port) -> u16
@@ -142,45 +67,68 @@ pub fn port_number(port: Port) -> u16
     }
 }
 
-// A session that holds nothing.
-pub fn fresh(stage: Stage, kept: Kept) -> Session
-    ensures { λ r. ⌜ r ≡ packed (emptySession kept SocksError.Settled) (viewAt stage []) ⌝ }
-{
-    let hold = [0u8; 261];
-    Session {
-        stage: stage,
-        held: 0,
-        hold: hold,
-        kept: kept,
-    }
+// What an opening comes to, beside the bytes of the requests that it keeps.
+pub struct Begun {
+    pub answer: Answer,
+    pub stage: Stage,
+    pub lengths: Lengths,
 }
 
-pub fn nothing() -> Kept
-    ensures { λ r. ⌜ r ≡ nothingKept ⌝ }
+// A refused opening keeps nothing.
+pub fn refuse(error: SocksError) -> Begun
+    ensures { λ r. ⌜ r ≡ record { answer = Answer.Refused error; stage = Stage.Failed error; lengths = nothingKept .lengths } ⌝ }
 {
-    let none = [0u8; 255];
-    Kept {
-        optimistic: false,
-        address: Address {
-            kind: AddressKind::Ipv4,
-            len: 4,
-            bytes: none,
-            port: 0,
-        },
-        user: none,
-        user_len: 0,
-        password: none,
-        password_len: 0,
-    }
-}
-
-// A refused opening returns the empty session, failed.
-pub fn refuse(error: SocksError) -> Opened
-    ensures { λ r. ⌜ r ≡ opened (refusal error (emptySession nothingKept error) []) ⌝ }
-{
-    Opened {
+    Begun {
         answer: Answer::Refused(error),
-        sent: 0,
-        session: fresh(Stage::Failed(error), nothing()),
+        stage: Stage::Failed(error),
+        lengths: Lengths {
+            optimistic: false,
+            first: 0,
+            authentication: 0,
+            proxy: 0,
+        },
+    }
+}
+
+// How many bytes go at the opening.
+fn goes_first(lengths: Lengths) -> usize
+    requires { ⌜ lengths .first + lengths .authentication + lengths .proxy ≤ 1024 ⌝ }
+    ensures { λ r. ⌜ r ≡ goesFirst lengths ⌝ }
+{
+    if lengths.optimistic {
+        return lengths.first + lengths.authentication + lengths.proxy;
+    }
+    lengths.first
+}
+
+// What goes at the opening, copied from the bytes kept to the output's start.
+pub fn send_first(lengths: Lengths, bytes: &[u8], out: &mut [u8]) -> usize
+    requires { ⌜ (lengths .first + lengths .authentication + lengths .proxy ≤ 1024) × (length (now bytes) ≡ 1024) × (goesFirst lengths ≤ length (now out)) ⌝ }
+    ensures { λ r. ⌜ Wrote (now (out .entry)) 0 (take (goesFirst lengths) (now (bytes .entry))) r (now (out .exit)) ⌝ }
+{
+    let n = goes_first(lengths);
+    copy(out, 0, &bytes[..n])
+}
+
+// What an opening returns: its session is built here alone.
+pub fn opened(begun: Begun, bytes: [u8; 1024], sent: usize) -> Opened
+    ensures { λ r. ⌜ r ≡ openedWith begun bytes sent ⌝ }
+{
+    let answer = begun.answer;
+    let stage = begun.stage;
+    let lengths = begun.lengths;
+    let hold = [0u8; 261];
+    Opened {
+        answer: answer,
+        sent: sent,
+        session: Session {
+            stage: stage,
+            held: 0,
+            hold: hold,
+            requests: Requests {
+                lengths: lengths,
+                bytes: bytes,
+            },
+        },
     }
 }

@@ -1,104 +1,120 @@
 // Opening a session over SOCKS4 and SOCKS4A.
 ghost use mathlib.Core.Path.{_≡_};
-ghost use mathlib.Core.Bool.{true, false, cond, not};
+ghost use mathlib.Core.Bool.{_&&_, not};
 ghost use Prim.Native.Nat.{_≤_};
-ghost use lib.ListN.{length, take};
+ghost use lib.ListN.{length, replicate};
 ghost use Rattle.protocol.specs.Host.{strip};
 ghost use Rattle.protocol.specs.AddressReading.{destinationOf};
-ghost use Rattle.protocol.specs.Requests.{address, name, request};
-ghost use Rattle.protocol.specs.Opening.{firstFour, isNone, isName, isIpv6, foundFour, asked4, check4, opening4};
-ghost use Rattle.protocol.specs.declared.Answer.the-variants as Answer;
-ghost use Rattle.wire.specs.Written.{Wrote};
+ghost use Rattle.protocol.specs.Requests.{request};
+ghost use Rattle.protocol.specs.Opening.{v4, firstFour, isNone, portNumber};
+ghost use Rattle.addresses.specs.Answers.{addressText};
 ghost use Rattle.lookup.specs.Chosen.{recordsOf};
-ghost use Rattle.session.specs.Calls.{openBy, Opens, open4};
+ghost use Rattle.checks.specs.Checks.{checkBy4};
+ghost use Rattle.wire.specs.Written.{Wrote};
+ghost use Rattle.session.specs.Calls.{Opens, open4};
+ghost use Rattle.openings.specs.Asked.{askedText, target4};
+ghost use Rattle.openings.specs.Begun.{Begins};
+ghost use Rattle.openings_v4.specs.Accepted.{Short4};
+ghost use Rattle.protocol.specs.declared.Answer.the-variants as Answer;
+use addresses::AddressText;
 use checks::checks::check4;
 use checks::checks::finds_no_four;
+use checks::lookups::read_host;
 use checks::lookups::wanted4;
 use lookup::Lookup;
 use lookup::choose;
+use openings::Begun;
 use protocol::AddressKind;
 use protocol::Answer;
 use protocol::Port;
 use protocol::Record;
 use protocol::Reply;
+use requests_v4::put_address;
+use requests_v4::put_name;
+use sending::Lengths;
 use sending::Stage;
 use session::Opened;
-use wire::place;
 
-fn first_four(bytes: [u8; 16]) -> [u8; 4]
-    ensures { λ r. ⌜ (r ≡ take 4 bytes) × (length bytes ≡ 16) ⌝ }
+// The Request for what is asked for: an address, or the host's text as a name.
+fn put_request(bytes: &mut [u8], asked: AddressText, text: &[u8], port: u16) -> usize
+    requires { ⌜ (1024 ≤ length (now bytes)) × Short4 (asked .kind) (now text) ⌝ }
+    ensures { λ r. ⌜ Wrote (now (bytes .entry)) 0 (request (target4 asked (now (text .entry))) port) r (now (bytes .exit)) ⌝ }
 {
-    let mut ip = [0u8; 4];
-    wire::put(&mut ip, 0, &bytes[..4]);
-    ip
-}
-
-// The request for an address.
-fn send_address(bytes: [u8; 16], port: u16, out: &mut [u8]) -> usize
-    requires { ⌜ 1024 ≤ length (now out) ⌝ }
-    ensures { λ r. ⌜ (Wrote (now (out .entry)) 0 (request (address (take 4 bytes)) port) r (now (out .exit))) × (length bytes ≡ 16) ⌝ }
-{
-    let ip = first_four(bytes);
-    place(requests_v4::write_request_address(out, 0, ip, port), 0)
-}
-
-fn finds_four(chosen: Lookup) -> bool
-    ensures { λ r. ⌜ r ≡ not (isNone (firstFour (recordsOf chosen))) ⌝ }
-{
-    !finds_no_four(chosen)
-}
-
-// The request for a name: looked up, or as it is.
-fn send_name(text: &[u8], port: u16, lookup: bool, chosen: Lookup, out: &mut [u8]) -> usize
-    requires { ⌜ (length (now text) ≤ 1014) × (1024 ≤ length (now out)) ⌝ }
-    ensures { λ r. ⌜ Wrote (now (out .entry)) 0 (request (cond lookup (foundFour (firstFour (recordsOf chosen)) (now (text .entry))) (name (now (text .entry)))) port) r (now (out .exit)) ⌝ }
-{
-    if openings::both(lookup, finds_four(chosen)) {
-        let found = chosen.first;
-        let bytes = found.address;
-        return send_address(bytes, port, out);
+    let kind = asked.kind;
+    let ip = asked.bytes;
+    match kind {
+        AddressKind::Ipv4 => put_address(bytes, 0, &ip[..4], port),
+        AddressKind::Ipv6 => 0,
+        AddressKind::Domain => put_name(bytes, 0, text, port),
     }
-    place(requests_v4::write_request_name(out, 0, text, port), 0)
 }
 
-// The request of an accepted opening.
-fn send_request(host: &[u8], port: u16, lookup: bool, chosen: Lookup, out: &mut [u8]) -> usize
-    requires { ⌜ (isName (destinationOf (strip (now host))) ≡ true → length (strip (now host)) ≤ 1014) × (isIpv6 (destinationOf (strip (now host))) ≡ false) × (1024 ≤ length (now out)) ⌝ }
-    ensures { λ r. ⌜ Wrote (now (out .entry)) 0 (request (asked4 lookup (recordsOf chosen) (destinationOf (strip (now (host .entry))))) port) r (now (out .exit)) ⌝ }
+// An accepted opening keeps its request.
+fn accept(bytes: &mut [u8], text: &[u8], asked: AddressText, port: Port) -> Begun
+    requires { ⌜ (now bytes ≡ replicate 1024 0) × Short4 (asked .kind) (now text) ⌝ }
+    ensures { λ r. ⌜ Begins Answer.Accepted (v4 (target4 asked (now (text .entry))) (portNumber port)) 1024 r (now (bytes .exit)) ⌝ }
+{
+    let n = put_request(bytes, asked, text, openings::port_number(port));
+    Begun {
+        answer: Answer::Accepted,
+        stage: Stage::Awaiting(Reply::Response),
+        lengths: Lengths {
+            optimistic: false,
+            first: n,
+            authentication: 0,
+            proxy: 0,
+        },
+    }
+}
+
+// Whether a name is to be looked up, and a record of family four was found.
+fn finds_four(local_dns: bool, chosen: Lookup) -> bool
+    ensures { λ r. ⌜ r ≡ («local_dns» && not (isNone (firstFour (recordsOf chosen)))) ⌝ }
+{
+    local_dns && !finds_no_four(chosen)
+}
+
+// The checks, and what an accepted opening keeps, for an output of so many bytes.
+fn begin(
+    bytes: &mut [u8],
+    local_dns: bool,
+    host: &[u8],
+    read: AddressText,
+    port: Port,
+    chosen: Lookup,
+    room: usize,
+) -> Begun
+    requires { ⌜ now bytes ≡ replicate 1024 0 ⌝ }
+    ensures { λ r. ⌜ Begins (checkBy4 room «local_dns» (strip (now (host .entry))) (read .kind) port (recordsOf chosen)) (v4 (target4 (askedText read («local_dns» && not (isNone (firstFour (recordsOf chosen)))) (chosen .first)) (strip (now (host .entry)))) (portNumber port)) room r (now (bytes .exit)) ⌝ }
 {
     let text = host::strip_ipv6_brackets(host);
-    let read = addresses::read_address(text);
     let kind = read.kind;
-    let bytes = read.bytes;
-    match kind {
-        AddressKind::Ipv4 => send_address(bytes, port, out),
-        AddressKind::Ipv6 => 0,
-        AddressKind::Domain => send_name(text, port, lookup, chosen, out),
-    }
-}
-
-// An accepted opening: its request.
-fn accept(local_dns: bool, host: &[u8], port: Port, chosen: Lookup, out: &mut [u8]) -> Opened
-    requires { ⌜ check4 (length (now out)) (record { localDns = «local_dns»; host = now host; port = port; records = recordsOf chosen }) ≡ Answer.Accepted ⌝ }
-    ensures { λ r. ⌜ Opens (openBy Answer.Accepted (opening4 (record { localDns = «local_dns»; host = now (host .entry); port = port; records = recordsOf chosen })) (now (out .entry))) r (now (out .exit)) ⌝ }
-{
-    let sent = send_request(host, openings::port_number(port), local_dns, chosen, out);
-    Opened {
-        answer: Answer::Accepted,
-        sent: sent,
-        session: openings::fresh(Stage::Awaiting(Reply::Response), openings::nothing()),
-    }
-}
-
-// An opening with the record chosen.
-fn open_chosen(local_dns: bool, host: &[u8], port: Port, chosen: Lookup, out: &mut [u8]) -> Opened
-    ensures { λ r. ⌜ Opens (open4 (record { localDns = «local_dns»; host = now (host .entry); port = port; records = recordsOf chosen }) (now (out .entry))) r (now (out .exit)) ⌝ }
-{
-    let answer = check4(local_dns, host, port, chosen, out.len());
+    let first = chosen.first;
+    let asked = openings::asked(read, finds_four(local_dns, chosen), first);
+    let answer = check4(local_dns, text, kind, port, chosen, room);
     match answer {
-        Answer::Accepted => accept(local_dns, host, port, chosen, out),
+        Answer::Accepted => accept(bytes, text, asked, port),
         Answer::Refused(error) => openings::refuse(error),
     }
+}
+
+// An opening with what was read of the host, and the record chosen.
+fn open_chosen(
+    local_dns: bool,
+    host: &[u8],
+    read: AddressText,
+    port: Port,
+    chosen: Lookup,
+    out: &mut [u8],
+) -> Opened
+    ensures { λ r. ⌜ (read ≡ addressText (destinationOf (strip (now (host .entry)))) → Opens (open4 (record { localDns = «local_dns»; host = now (host .entry); port = port; records = recordsOf chosen }) (now (out .entry))) r (now (out .exit))) ⌝ }
+{
+    let mut bytes = [0u8; 1024];
+    let room = out.len();
+    let begun = begin(&mut bytes, local_dns, host, read, port, chosen, room);
+    let lengths = begun.lengths;
+    let sent = openings::send_first(lengths, &bytes, out);
+    openings::opened(begun, bytes, sent)
 }
 
 // Opens a session over SOCKS4: its request stands at the output's start, which has 1,024 bytes or more. A refused opening leaves the
@@ -107,7 +123,8 @@ fn open_chosen(local_dns: bool, host: &[u8], port: Port, chosen: Lookup, out: &m
 pub fn open(local_dns: bool, host: &[u8], port: Port, records: &[Record], out: &mut [u8]) -> Opened
     ensures { λ r. ⌜ Opens (open4 (record { localDns = «local_dns»; host = now (host .entry); port = port; records = now (records .entry) }) (now (out .entry))) r (now (out .exit)) ⌝ }
 {
-    let most = wanted4(local_dns, host);
+    let read = read_host(host);
+    let most = wanted4(local_dns, host, read);
     let chosen = choose(records, most, true);
-    open_chosen(local_dns, host, port, chosen, out)
+    open_chosen(local_dns, host, read, port, chosen, out)
 }

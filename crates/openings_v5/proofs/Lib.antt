@@ -1,1 +1,2 @@
-pub mod Greeting
+pub mod Keeping
+pub mod Opening

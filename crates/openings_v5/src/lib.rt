@@ -1,75 +1,42 @@
 // Opening a session over SOCKS5.
 ghost use mathlib.Core.Path.{_≡_};
-ghost use mathlib.Core.Bool.{cond};
-ghost use mathlib.Core.List.{[]};
+ghost use mathlib.Core.Bool.{true, _&&_};
 ghost use Prim.Native.Nat.{_+_, _≤_};
-ghost use lib.ListN.{length};
-ghost use Rattle.protocol.specs.Requests.{negotiationReq};
-ghost use Rattle.protocol.specs.declared.AuthMethod.the-variants as AuthMethod;
-ghost use Rattle.wire.specs.Written.{Wrote};
-ghost use Rattle.sending.specs.Stages.{requestsOf};
-ghost use Rattle.openings_v5.specs.Begin.{followOf, beginOf};
+ghost use lib.ListN.{length, replicate};
+ghost use Rattle.protocol.specs.declared.AddressKind.the-variants as AddressKind;
+ghost use Rattle.protocol.specs.Host.{strip};
+ghost use Rattle.protocol.specs.AddressReading.{destinationOf};
+ghost use Rattle.protocol.specs.Requests.{proxyReq};
+ghost use Rattle.protocol.specs.Opening.{v5, credentialsIf, portNumber};
+ghost use Rattle.addresses.specs.Answers.{addressText};
 ghost use Rattle.lookup.specs.Chosen.{recordsOf};
-ghost use Rattle.openings.specs.Accepted.{methodOf, Short5};
-ghost use Rattle.session.specs.Calls.{keptBy, openBy, Opens, open5};
-ghost use Rattle.protocol.specs.Opening.{check5, opening5};
+ghost use Rattle.checks.specs.Checks.{checkBy5};
+ghost use Rattle.wire.specs.Written.{Wrote};
+ghost use Rattle.session.specs.Calls.{keptBy, Opens, open5};
+ghost use Rattle.openings.specs.Asked.{askedText, target5};
+ghost use Rattle.openings.specs.Begun.{methodOf, Begins};
+ghost use Rattle.openings_v5.specs.Accepted.{Short5, credentialsReq};
 ghost use Rattle.protocol.specs.declared.Answer.the-variants as Answer;
+use addresses::AddressText;
 use checks::checks::check5;
+use checks::lookups::read_host;
 use checks::lookups::wanted5;
 use lookup::Lookup;
 use lookup::choose;
+use openings::Begun;
+use protocol::AddressKind;
 use protocol::Answer;
 use protocol::AuthMethod;
 use protocol::Port;
 use protocol::Record;
 use protocol::Reply;
 use protocol::SocksConfig;
-use sending::Kept;
+use requests_v5::put_authentication_req;
+use requests_v5::put_negotiation_req;
+use requests_v5::put_proxy_req;
+use sending::Lengths;
 use sending::Stage;
-use sending::put_authentication;
-use sending::put_proxy;
 use session::Opened;
-use wire::place;
-
-fn greet(method: AuthMethod, out: &mut [u8]) -> usize
-    requires { ⌜ 778 ≤ length (now out) ⌝ }
-    ensures { λ r. ⌜ Wrote (now (out .entry)) 0 (negotiationReq method) r (now (out .exit)) ⌝ }
-{
-    place(requests_v5::write_negotiation_req(out, 0, method), 0)
-}
-
-// AuthenticationReq and ProxyReq.
-fn follow_authentication(kept: Kept, out: &mut [u8], at: usize) -> usize
-    requires { ⌜ at + 775 ≤ length (now out) ⌝ }
-    ensures { λ r. ⌜ Wrote (now (out .entry)) at (followOf (requestsOf kept) AuthMethod.UserPass) r (now (out .exit)) ⌝ }
-{
-    let next = put_authentication(kept, out, at);
-    put_proxy(kept, out, next)
-}
-
-// All requests behind a greeting.
-fn follow(kept: Kept, method: AuthMethod, out: &mut [u8], at: usize) -> usize
-    requires { ⌜ at + 775 ≤ length (now out) ⌝ }
-    ensures { λ r. ⌜ Wrote (now (out .entry)) at (followOf (requestsOf kept) method) r (now (out .exit)) ⌝ }
-{
-    match method {
-        AuthMethod::NoAuth => put_proxy(kept, out, at),
-        AuthMethod::UserPass => follow_authentication(kept, out, at),
-        AuthMethod::NoneAcceptable => at,
-    }
-}
-
-// The greeting, and optimistically all that follows it.
-fn begin(kept: Kept, method: AuthMethod, out: &mut [u8]) -> usize
-    requires { ⌜ 778 ≤ length (now out) ⌝ }
-    ensures { λ r. ⌜ Wrote (now (out .entry)) 0 (beginOf (kept .optimistic) (requestsOf kept) method) r (now (out .exit)) ⌝ }
-{
-    let at = greet(method, out);
-    if kept.optimistic {
-        return follow(kept, method, out, at);
-    }
-    at
-}
 
 fn method_of(auth: bool) -> AuthMethod
     ensures { λ r. ⌜ r ≡ methodOf auth ⌝ }
@@ -81,77 +48,145 @@ fn method_of(auth: bool) -> AuthMethod
     }
 }
 
-// A credential, if credentials are given.
-fn credential(auth: bool, src: &[u8]) -> &[u8]
-    ensures { λ r. ⌜ now r ≡ cond auth (now (src .entry)) [] ⌝ }
+// The AuthenticationReq, if credentials are given.
+fn put_authentication(
+    bytes: &mut [u8],
+    at: usize,
+    auth: bool,
+    user: &[u8],
+    password: &[u8],
+) -> usize
+    requires { ⌜ (auth ≡ true → (length (now user) ≤ 255) × (length (now password) ≤ 255)) × (at + 513 ≤ length (now bytes)) ⌝ }
+    ensures { λ r. ⌜ Wrote (now (bytes .entry)) at (credentialsReq auth (now (user .entry)) (now (password .entry))) r (now (bytes .exit)) ⌝ }
 {
     if auth {
-        return src;
+        return put_authentication_req(bytes, at, user, password);
     }
-    &src[..0]
+    at
 }
 
-// What is kept of an accepted opening.
+// The ProxyReq for what is asked for: an address, or the host's text as a name.
+fn put_proxy(bytes: &mut [u8], at: usize, asked: AddressText, text: &[u8], port: u16) -> usize
+    requires { ⌜ (asked .kind ≡ AddressKind.Domain → length (now text) ≤ 255) × (at + 262 ≤ length (now bytes)) ⌝ }
+    ensures { λ r. ⌜ Wrote (now (bytes .entry)) at (proxyReq (target5 asked (now (text .entry))) port) r (now (bytes .exit)) ⌝ }
+{
+    let kind = asked.kind;
+    let ip = asked.bytes;
+    match kind {
+        AddressKind::Ipv4 => put_proxy_req(bytes, at, kind, &ip[..4], port),
+        AddressKind::Ipv6 => put_proxy_req(bytes, at, kind, &ip, port),
+        AddressKind::Domain => put_proxy_req(bytes, at, kind, text, port),
+    }
+}
+
+// The requests of an accepted opening, one behind the other.
 fn keep(
+    bytes: &mut [u8],
     config: SocksConfig,
-    host: &[u8],
-    port: Port,
+    text: &[u8],
+    asked: AddressText,
+    port: u16,
     user: &[u8],
     password: &[u8],
-    chosen: Lookup,
-) -> Kept
-    requires { ⌜ Short5 (record { config = config; host = now host; port = port; user = now user; password = now password; records = recordsOf chosen }) ⌝ }
-    ensures { λ r. ⌜ r ≡ keptBy (opening5 (record { config = config; host = now (host .entry); port = port; user = now (user .entry); password = now (password .entry); records = recordsOf chosen })) ⌝ }
+) -> Lengths
+    requires { ⌜ (now bytes ≡ replicate 1024 0) × Short5 (config .«proxy_auth») (now user) (now password) (asked .kind) (now text) ⌝ }
+    ensures { λ r. ⌜ record { lengths = r; bytes = now (bytes .exit) } ≡ keptBy (v5 (credentialsIf (config .«proxy_auth») (now (user .entry)) (now (password .entry))) (target5 asked (now (text .entry))) port (config .optimistic)) ⌝ }
 {
-    let address = openings::asked(host, openings::port_number(port), config.local_dns, chosen);
-    openings::keep(
-        config.optimistic,
-        address,
-        credential(config.proxy_auth, user),
-        credential(config.proxy_auth, password),
-    )
-}
-
-// An accepted opening: what it keeps, and what it sends.
-fn accept(
-    config: SocksConfig,
-    host: &[u8],
-    port: Port,
-    user: &[u8],
-    password: &[u8],
-    chosen: Lookup,
-    out: &mut [u8],
-) -> Opened
-    requires { ⌜ check5 (length (now out)) (record { config = config; host = now host; port = port; user = now user; password = now password; records = recordsOf chosen }) ≡ Answer.Accepted ⌝ }
-    ensures { λ r. ⌜ Opens (openBy Answer.Accepted (opening5 (record { config = config; host = now (host .entry); port = port; user = now (user .entry); password = now (password .entry); records = recordsOf chosen })) (now (out .entry))) r (now (out .exit)) ⌝ }
-{
-    let kept = keep(config, host, port, user, password, chosen);
-    let method = method_of(config.proxy_auth);
-    let sent = begin(kept, method, out);
-    Opened {
-        answer: Answer::Accepted,
-        sent: sent,
-        session: openings::fresh(Stage::Awaiting(Reply::NegotiationRes(method)), kept),
+    let a = put_negotiation_req(bytes, 0, method_of(config.proxy_auth));
+    let b = put_authentication(bytes, a, config.proxy_auth, user, password);
+    let c = put_proxy(bytes, b, asked, text, port);
+    Lengths {
+        optimistic: config.optimistic,
+        first: a,
+        authentication: b - a,
+        proxy: c - b,
     }
 }
 
-// An opening with the record chosen.
+// An accepted opening.
+fn accept(
+    bytes: &mut [u8],
+    config: SocksConfig,
+    text: &[u8],
+    asked: AddressText,
+    port: Port,
+    user: &[u8],
+    password: &[u8],
+) -> Begun
+    requires { ⌜ (now bytes ≡ replicate 1024 0) × Short5 (config .«proxy_auth») (now user) (now password) (asked .kind) (now text) ⌝ }
+    ensures { λ r. ⌜ Begins Answer.Accepted (v5 (credentialsIf (config .«proxy_auth») (now (user .entry)) (now (password .entry))) (target5 asked (now (text .entry))) (portNumber port) (config .optimistic)) 778 r (now (bytes .exit)) ⌝ }
+{
+    let lengths = keep(
+        bytes,
+        config,
+        text,
+        asked,
+        openings::port_number(port),
+        user,
+        password,
+    );
+    Begun {
+        answer: Answer::Accepted,
+        stage: Stage::Awaiting(Reply::NegotiationRes(method_of(config.proxy_auth))),
+        lengths: lengths,
+    }
+}
+
+// The checks, and what an accepted opening keeps, for an output of so many bytes.
+fn begin(
+    bytes: &mut [u8],
+    config: SocksConfig,
+    host: &[u8],
+    read: AddressText,
+    port: Port,
+    user: &[u8],
+    password: &[u8],
+    chosen: Lookup,
+    room: usize,
+) -> Begun
+    requires { ⌜ now bytes ≡ replicate 1024 0 ⌝ }
+    ensures { λ r. ⌜ Begins (checkBy5 room config (strip (now (host .entry))) (read .kind) port (now (user .entry)) (now (password .entry)) (recordsOf chosen)) (v5 (credentialsIf (config .«proxy_auth») (now (user .entry)) (now (password .entry))) (target5 (askedText read (config .«local_dns» && chosen .found) (chosen .first)) (strip (now (host .entry)))) (portNumber port) (config .optimistic)) room r (now (bytes .exit)) ⌝ }
+{
+    let text = host::strip_ipv6_brackets(host);
+    let kind = read.kind;
+    let first = chosen.first;
+    let asked = openings::asked(read, openings::both(config.local_dns, chosen.found), first);
+    let answer = check5(config, text, kind, port, user, password, chosen, room);
+    match answer {
+        Answer::Accepted => accept(bytes, config, text, asked, port, user, password),
+        Answer::Refused(error) => openings::refuse(error),
+    }
+}
+
+// An opening with what was read of the host, and the record chosen.
 fn open_chosen(
     config: SocksConfig,
     host: &[u8],
+    read: AddressText,
     port: Port,
     user: &[u8],
     password: &[u8],
     chosen: Lookup,
     out: &mut [u8],
 ) -> Opened
-    ensures { λ r. ⌜ Opens (open5 (record { config = config; host = now (host .entry); port = port; user = now (user .entry); password = now (password .entry); records = recordsOf chosen }) (now (out .entry))) r (now (out .exit)) ⌝ }
+    ensures { λ r. ⌜ (read ≡ addressText (destinationOf (strip (now (host .entry)))) → Opens (open5 (record { config = config; host = now (host .entry); port = port; user = now (user .entry); password = now (password .entry); records = recordsOf chosen }) (now (out .entry))) r (now (out .exit))) ⌝ }
 {
-    let answer = check5(config, host, port, user, password, chosen, out.len());
-    match answer {
-        Answer::Accepted => accept(config, host, port, user, password, chosen, out),
-        Answer::Refused(error) => openings::refuse(error),
-    }
+    let mut bytes = [0u8; 1024];
+    let room = out.len();
+    let begun = begin(
+        &mut bytes,
+        config,
+        host,
+        read,
+        port,
+        user,
+        password,
+        chosen,
+        room,
+    );
+    let lengths = begun.lengths;
+    let sent = openings::send_first(lengths, &bytes, out);
+    openings::opened(begun, bytes, sent)
 }
 
 // Opens a session over SOCKS5: what it sends stands at the output's start, which has 778 bytes or more. A refused opening leaves the
@@ -168,7 +203,8 @@ pub fn open(
 ) -> Opened
     ensures { λ r. ⌜ Opens (open5 (record { config = config; host = now (host .entry); port = port; user = now (user .entry); password = now (password .entry); records = now (records .entry) }) (now (out .entry))) r (now (out .exit)) ⌝ }
 {
-    let most = wanted5(config, host);
+    let read = read_host(host);
+    let most = wanted5(config, host, read);
     let chosen = choose(records, most, false);
-    open_chosen(config, host, port, user, password, chosen, out)
+    open_chosen(config, host, read, port, user, password, chosen, out)
 }

@@ -5,8 +5,8 @@ use native.Mathlib.Omega.{arith}
 use mathlib.Core.Path.{_≡_, refl, ap, sym, subst, _∙_}
 use mathlib.Core.Bool.{Bool, true, false, cond}
 use mathlib.Core.List.{List, [], _++_}
-use lib.ListN.{length, take, drop, length-append, List·getD-append, length-drop, length-take, take-append-drop}
-use lib.Seq.{take-append-le, drop-append-le, take-all, getD-take}
+use lib.ListN.{length, drop, length-append, List·getD-append, length-drop}
+use lib.Seq.{take-append-le, drop-append-le}
 use lib.Dec.{leb, eqb, lit≤}
 use borrow.Author.Tests.{leb-true, leb-false, le-leb, eqb-true}
 use Rattle.protocol.specs.declared.SocksError.{SocksError}
@@ -198,13 +198,3 @@ undecided-261 e bs y q = undecided-by e bs (y 4) q
 -- and none is decided past 262
 pub decided-262 : (e : Reply) (bs : List ℕ) (n : ℕ) (v : Verdict) → Bytes bs → decide e bs ≡ Decided n v → n ≤ 262
 decided-262 e bs n v y q = rw q at (bounded e bs (y 4))
-
--- so 262 bytes decide as all do
-pub first-262 : (e : Reply) (bs : List ℕ) → byte bs 4 ≤ 255 → decide e (take 262 bs) ≡ decide e bs
-first-262 e bs y = go (decide e (take 262 bs)) refl
-  where
-    go : (d : Decision) → decide e (take 262 bs) ≡ d → decide e (take 262 bs) ≡ decide e bs
-    go Undecided q =
-        let h : length (take 262 bs) ≤ 261 = rw q at (bounded e (take 262 bs) (rw (getD-take 262 bs 4 0 (lit≤ tt)) y)) in
-        ap (decide e) (take-all 262 bs (omega (arith, h, length-take 262 bs)))
-    go (Decided n v) q = q ∙ sym (rw take-append-drop at (stays-decided e (take 262 bs) (drop 262 bs) n v q))

@@ -3,7 +3,6 @@ use Prim.Native.Nat.{ℕ}
 use mathlib.Core.Path.{_≡_}
 use mathlib.Core.Bool.{Bool, true, false}
 use mathlib.Core.List.{List, []}
-use lib.ListN.{replicate}
 use Rattle.protocol.specs.declared.AuthMethod.{AuthMethod}
 use Rattle.protocol.specs.declared.AuthMethod.the-variants.{NoAuth, UserPass, NoneAcceptable}
 use Rattle.protocol.specs.declared.SocksError.{SocksError}
@@ -16,7 +15,6 @@ use Rattle.protocol.specs.declared.Decision as codes
 use Rattle.protocol.specs.declared.Decision.the-variants.{Undecided, Decided}
 use Rattle.protocol.specs.declared.Outcome.{Outcome}
 use Rattle.protocol.specs.declared.Outcome.the-variants.{Waiting, Open, Failed}
-use Rattle.protocol.specs.AddressReading.{ipv4}
 use Rattle.protocol.specs.Requests.{negotiationReq, authenticationReq, proxyReq, request}
 use Rattle.protocol.specs.Opening.{noAuth, userPass, Opening, v5, v4}
 use Rattle.protocol.specs.Replies.{decide}
@@ -76,11 +74,11 @@ client c =
       short = ShortOutput;
     }
 
--- what is kept of an opening; without credentials, and over v4, nothing sends what stands in their place
+-- what is kept of an opening; without credentials, and over v4, nothing stands in their place
 abbrev pub kept : Opening → Kept
-kept (v5 noAuth d port o) = record { optimistic = o; authentication = authenticationReq [] []; proxy = proxyReq d port }
+kept (v5 noAuth d port o) = record { optimistic = o; authentication = []; proxy = proxyReq d port }
 kept (v5 (userPass u p) d port o) = record { optimistic = o; authentication = authenticationReq u p; proxy = proxyReq d port }
-kept (v4 d port) = record { optimistic = false; authentication = authenticationReq [] []; proxy = proxyReq (ipv4 (replicate 4 0)) 0 }
+kept (v4 d port) = record { optimistic = false; authentication = []; proxy = [] }
 
 -- an opening's talk
 abbrev pub begun : Opening → ClientTalk

@@ -1,12 +1,11 @@
 -- Document 01, "v5 requests" and "v4 request": the bytes of each request, from its public document.
 use Prim.Native.Nat.{ℕ}
 use mathlib.Core.List.{List, [], _∷_, _++_}
-use lib.ListN.{length, take}
+use lib.ListN.{length}
 use Rattle.protocol.specs.declared.AuthMethod.{AuthMethod}
 use Rattle.protocol.specs.declared.AuthMethod.the-variants.{NoAuth, UserPass, NoneAcceptable}
 use Rattle.protocol.specs.declared.AddressKind.{AddressKind}
 use Rattle.protocol.specs.declared.AddressKind.the-variants.{Ipv4, Ipv6, Domain}
-use Rattle.protocol.specs.declared.Address.{Address}
 use Rattle.protocol.specs.Bytes.{two}
 use Rattle.protocol.specs.AddressReading.{Destination, ipv4, ipv6, domain}
 
@@ -44,11 +43,8 @@ unfoldable pub request : Destination4 → ℕ → List ℕ
 request (address bs) port = 0x04 ∷ 0x01 ∷ (two port ++ (bs ++ (0 ∷ [])))
 request (name s) port = 0x04 ∷ 0x01 ∷ (two port ++ (0 ∷ 0 ∷ 0 ∷ 0xFF ∷ 0 ∷ (s ++ (0 ∷ []))))
 
--- the destination that a session keeps: the first bytes, as many as it says
+-- a destination of a kind
 abbrev pub kindOf : AddressKind → List ℕ → Destination
 kindOf Ipv4 bs = ipv4 bs
 kindOf Ipv6 bs = ipv6 bs
 kindOf Domain bs = domain bs
-
-abbrev pub keptDestination : Address → Destination
-keptDestination a = kindOf (a .kind) (take (a .len) (a .bytes))

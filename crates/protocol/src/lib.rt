@@ -37,14 +37,6 @@ pub enum AddressKind {
     Domain,
 }
 
-// A destination as a session keeps it: the first len bytes, four for Ipv4 and sixteen for Ipv6.
-pub struct Address {
-    pub kind: AddressKind,
-    pub len: u8,
-    pub bytes: [u8; 255],
-    pub port: u16,
-}
-
 // Why a call was refused or a session failed. specs/Numbers.antt gives each its number and status.
 pub enum SocksError {
     ShortOutput,

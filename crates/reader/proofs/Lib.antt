@@ -1,4 +1,4 @@
+pub mod Lists
 pub mod Held
-pub mod Takes
 pub mod Came
 pub mod Returns

@@ -4,12 +4,9 @@ use mathlib.Core.Bool.{cond}
 use mathlib.Core.List.{List}
 use lib.ListN.{length}
 use lib.Dec.{ltb, leb}
-use denote.Ref.{RefT, now}
 use Rattle.protocol.specs.Bytes.{byte}
 use Rattle.reader.specs.declared.Took.{Took}
 use Rattle.reader.specs.declared.Passed.{Passed}
-use Rattle.reader.specs.declared.Taken.{Taken}
-use Rattle.reader.specs.declared.Part.{Part}
 use Rattle.reader.specs.declared.Two.{Two}
 use Rattle.reader.specs.declared.Three.{Three}
 
@@ -19,13 +16,6 @@ byteAt s at = let came = ltb at (length s) in record { byte = byte s at; came = 
 
 unfoldable pub bytesAt : List ℕ → ℕ → ℕ → Passed
 bytesAt s at n = let came = leb (at + n) (length s) in record { came = came; at = cond came (at + n) at }
-
--- the same in a slice, which is handed back
-abbrev pub taken : RefT (List ℕ) → ℕ → Taken
-taken s at = let t = byteAt (now s) at in record { src = s; at = t .at; came = t .came; byte = t .byte }
-
-abbrev pub passed : RefT (List ℕ) → ℕ → ℕ → Part
-passed s at n = let p = bytesAt (now s) at n in record { src = s; from = at; at = p .at; came = p .came }
 
 -- in a row, each from the place behind the one before
 unfoldable pub twoAt : List ℕ → ℕ → Two

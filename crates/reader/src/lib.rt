@@ -1,12 +1,13 @@
-// A reader over unread bytes that carries its place. Its methods leave the work to functions on a slice and a place.
+// A reader over unread bytes that carries its place. The bytes stand in two slices, the held ones and then the piece, and are read where
+// they stand. Its method leaves the work to a function on the slices and a place.
 ghost use mathlib.Core.Path.{_≡_};
-ghost use Prim.Native.Nat.{_-_};
-ghost use lib.ListN.{length};
-ghost use Rattle.reader.specs.Reader.{byteAt, bytesAt, taken, passed, twoAt, threeAt};
-use wire::has_room;
+ghost use mathlib.Core.List.{_++_};
+ghost use Prim.Native.Nat.{_+_, _≤_};
+ghost use Rattle.reader.specs.Reader.{byteAt, bytesAt, twoAt, threeAt};
 
-pub struct Reader<'a> {
-    pub src: &'a [u8],
+pub struct Reader<'a, 'b> {
+    pub held: &'a [u8],
+    pub piece: &'b [u8],
     pub at: usize,
 }
 
@@ -17,12 +18,21 @@ pub struct Took {
     pub at: usize,
 }
 
-pub fn byte_at(s: &[u8], at: usize) -> Took
-    ensures { λ t. ⌜ t ≡ byteAt (now (s .entry)) at ⌝ }
+pub fn byte_at(held: &[u8], piece: &[u8], at: usize) -> Took
+    ensures { λ t. ⌜ t ≡ byteAt (now (held .entry) ++ now (piece .entry)) at ⌝ }
 {
-    if at < s.len() {
+    let n = held.len();
+    if at < n {
         return Took {
-            byte: s[at],
+            byte: held[at],
+            came: true,
+            at: at + 1,
+        };
+    }
+    let j = at - n;
+    if j < piece.len() {
+        return Took {
+            byte: piece[j],
             came: true,
             at: at + 1,
         };
@@ -40,79 +50,25 @@ pub struct Passed {
     pub at: usize,
 }
 
-pub fn bytes_at(s: &[u8], at: usize, n: usize) -> Passed
-    ensures { λ p. ⌜ p ≡ bytesAt (now (s .entry)) at n ⌝ }
+pub fn bytes_at(held: &[u8], piece: &[u8], at: usize, n: usize) -> Passed
+    requires { ⌜ at + n ≤ 262 ⌝ }
+    ensures { λ p. ⌜ p ≡ bytesAt (now (held .entry) ++ now (piece .entry)) at n ⌝ }
 {
-    if has_room(s.len(), at, n) {
+    let end = at + n;
+    if end <= held.len() + piece.len() {
         return Passed {
             came: true,
-            at: at + n,
+            at: end,
         };
     }
     Passed { came: false, at }
 }
 
-pub fn left_at(s: &[u8], at: usize) -> usize
-    ensures { λ n. ⌜ n ≡ length (now (s .entry)) - at ⌝ }
-{
-    if at < s.len() {
-        return s.len() - at;
-    }
-    0
-}
-
-// What byte_at answers, and the slice to read on.
-pub struct Taken<'a> {
-    pub src: &'a [u8],
-    pub at: usize,
-    pub came: bool,
-    pub byte: u8,
-}
-
-// What bytes_at answers, and the slice to read on. The bytes taken are src[from..at].
-pub struct Part<'a> {
-    pub src: &'a [u8],
-    pub from: usize,
-    pub at: usize,
-    pub came: bool,
-}
-
-impl<'a> Reader<'a> {
-    pub fn take_byte(self) -> Taken<'a>
-        ensures { λ t. ⌜ t ≡ taken (self .entry .src) (self .entry .at) ⌝ }
+impl<'a, 'b> Reader<'a, 'b> {
+    pub fn take_byte(self) -> Took
+        ensures { λ t. ⌜ t ≡ byteAt (now (self .entry .held) ++ now (self .entry .piece)) (self .entry .at) ⌝ }
     {
-        let t = byte_at(self.src, self.at);
-        Taken {
-            src: self.src,
-            at: t.at,
-            came: t.came,
-            byte: t.byte,
-        }
-    }
-
-    pub fn take_bytes(self, n: usize) -> Part<'a>
-        ensures { λ p. ⌜ p ≡ passed (self .entry .src) (self .entry .at) n ⌝ }
-    {
-        let p = bytes_at(self.src, self.at, n);
-        Part {
-            src: self.src,
-            from: self.at,
-            at: p.at,
-            came: p.came,
-        }
-    }
-
-    // How many bytes are left; none where the place is past the end.
-    pub fn left(self) -> usize
-        ensures { λ n. ⌜ n ≡ length (now (self .entry .src)) - self .entry .at ⌝ }
-    {
-        left_at(self.src, self.at)
-    }
-
-    pub fn place(self) -> usize
-        ensures { λ n. ⌜ n ≡ self .entry .at ⌝ }
-    {
-        self.at
+        byte_at(self.held, self.piece, self.at)
     }
 }
 
@@ -125,12 +81,13 @@ pub struct Two {
 }
 
 // A take at the end goes nowhere, so the last one tells whether all came: a row of takes needs no branch.
-pub fn two_at(s: &[u8], at: usize) -> Two
-    ensures { λ p. ⌜ p ≡ twoAt (now (s .entry)) at ⌝ }
+pub fn two_at(held: &[u8], piece: &[u8], at: usize) -> Two
+    ensures { λ p. ⌜ p ≡ twoAt (now (held .entry) ++ now (piece .entry)) at ⌝ }
 {
-    let a = Reader { src: s, at }.take_byte();
+    let a = Reader { held, piece, at }.take_byte();
     let b = Reader {
-        src: a.src,
+        held,
+        piece,
         at: a.at,
     }.take_byte();
     Two {
@@ -149,21 +106,14 @@ pub struct Three {
     pub at: usize,
 }
 
-pub fn three_at(s: &[u8], at: usize) -> Three
-    ensures { λ p. ⌜ p ≡ threeAt (now (s .entry)) at ⌝ }
+pub fn three_at(held: &[u8], piece: &[u8], at: usize) -> Three
+    ensures { λ p. ⌜ p ≡ threeAt (now (held .entry) ++ now (piece .entry)) at ⌝ }
 {
-    let a = Reader { src: s, at }.take_byte();
-    let b = Reader {
-        src: a.src,
-        at: a.at,
-    }.take_byte();
-    let c = Reader {
-        src: b.src,
-        at: b.at,
-    }.take_byte();
+    let p = two_at(held, piece, at);
+    let c = byte_at(held, piece, p.at);
     Three {
-        first: a.byte,
-        second: b.byte,
+        first: p.first,
+        second: p.second,
         third: c.byte,
         came: c.came,
         at: c.at,

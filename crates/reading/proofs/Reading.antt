@@ -1,85 +1,124 @@
--- A reply across held bytes and a piece is decided by the first 262 of them.
+-- Replies read where they stand, and the rest that is kept at the start of a hold.
 use Prim.Native.Nat.{ℕ, _+_, _-_, _≤_, _<_, min}
 use native.Mathlib.Nat.{zero-add}
+use native.Mathlib.Numerals.{add-one}
 use native.Mathlib.Omega.{arith}
-use mathlib.Core.Path.{_≡_, ap, sym, _∙_}
-use mathlib.Core.Bool.{true}
-use mathlib.Core.List.{List, _++_}
-use lib.ListN.{length, take, drop, length-append, length-take, length-drop}
-use lib.Seq.{take-append-add, drop-append-add, drop-append-le, getD-take}
-use lib.Dec.{lit≤}
+use mathlib.Core.Path.{_≡_, refl, ap, sym, _∙_}
+use mathlib.Core.Bool.{Bool, true, false}
+use mathlib.Core.List.{List, _++_, append-assoc}
+use lib.ListN.{length, take, drop, getD, set, length-drop, take-append-drop, List·getD-append}
+use lib.Seq.{take-add, drop-at, drop-length, drop-append-le, drop-append-add, getD-append-add, getD-drop, length-take-le, paste, paste-suc, length-paste, drop-paste}
+use lib.Dec.{ltb, leb}
+use borrow.Author.Tests.{lt-leb, ltb-true, ltb-false, leb-true, leb-false}
 use Rattle.protocol.specs.declared.Reply.{Reply}
-use Rattle.protocol.specs.declared.Decision.{Decision}
+use Rattle.protocol.specs.declared.Reply.the-variants.{NegotiationRes, AuthenticationRes, ProxyRes, Response}
+use Rattle.protocol.specs.declared.Decision.the-variants.{Undecided}
 use Rattle.protocol.specs.Bytes.{byte}
-use Rattle.protocol.specs.Replies.{decide}
-use Rattle.protocol.proofs.Replies.{first-262}
-use Rattle.wire.specs.declared.Written.{Written}
-use Rattle.wire.specs.Written.{overwrite, Wrote, Writes}
-use Rattle.wire.proofs.Laws.{fitted, wrote-start, wrote-length, then}
-use Rattle.wire.proofs.Parts.{take-min, part-from}
+use Rattle.protocol.specs.Replies.{decide, proxyAt}
+use Rattle.wire.specs.Written.{overwrite, Wrote}
+use Rattle.wire.proofs.Laws.{length-overwrite, overwrite-more}
+use Rattle.wire.proofs.Parts.{part-from}
+use Rattle.reading.specs.Fewest.{fewest}
 
-pub take-least : (n : ℕ) (l : List ℕ) → length l ≡ 261 → take (min n 261) l ≡ take n l
-take-least n l h = rw (← h) (take-min n l)
-
-across : (h p : List ℕ) → length h ≤ 262 → h ++ take (min (length p) (262 - length h)) p ≡ take 262 (h ++ p)
-across h p l =
-    let z : 262 ≡ length h + (262 - length h) = omega arith in
-    let swap : min (length p) (262 - length h) ≡ min (262 - length h) (length p) = omega arith in
-    ap (λ (t : List ℕ). h ++ t) (ap (λ (n : ℕ). take n p) swap ∙ take-min (262 - length h) p) ∙ sym (ap (λ (n : ℕ). take n (h ++ p)) z ∙ take-append-add h p (262 - length h))
-
-module _ (h p : List ℕ) (m : ℕ) (e : m ≡ min (length p) (262 - length h)) (l : length h ≤ 261) where
-  pub part-long : m ≡ length (take m p)
-  part-long = let k = length-take m p in omega arith
-
-  -- what stands in a buffer after both were put there
-  module _ {b₀ b₁ b₂ : List ℕ} {r s : Written} (long : length b₀ ≡ 262) (v : Writes true b₀ 0 h r b₁) (w : Writes true b₁ (length h) (take m p) s b₂) where
-    pub both : Wrote b₀ 0 (h ++ take m p) (length h + length (take m p)) b₂
-    both =
-        let f : Wrote b₀ 0 h (length h) b₁ = rw zero-add at (fitted v (omega arith)) in
-        let k = part-long in
-        let n = wrote-length f in
-        then f (fitted w (omega arith))
-
-    pub in-buffer : take (length h + m) b₂ ≡ take 262 (h ++ p)
-    in-buffer =
-        let k = part-long in
-        let z : length (h ++ take m p) ≡ length h + m = length-append h (take m p) ∙ omega arith in
-        ap (λ (n : ℕ). take n b₂) (sym z) ∙ wrote-start both ∙ ap (λ (n : ℕ). h ++ take n p) e ∙ across h p (omega arith)
-
-    pub buffer-long : length h + m ≡ length (take (length h + m) b₂)
-    buffer-long = let k = part-long in let n = wrote-length both in let z = length-take (length h + m) b₂ in omega arith
-
--- the first 262 bytes decide
-pub decided-first : (e : Reply) (x : Decision) (bs cs : List ℕ) → cs ≡ take 262 bs → x ≡ decide e cs → byte cs 4 ≤ 255 → (x ≡ decide e bs) × (byte bs 4 ≤ 255)
-decided-first e x bs cs c d y =
-    let z : byte cs 4 ≡ byte bs 4 = rw c (getD-take 262 bs 4 0 (lit≤ tt)) in
-    (d ∙ ap (decide e) c ∙ first-262 e bs (omega arith), omega arith)
+-- no reply is decided by fewer bytes
+pub too-few : (e : Reply) (bs : List ℕ) → length bs < fewest e → decide e bs ≡ Undecided
+unfolding decide proxyAt
+too-few (NegotiationRes m) bs h = rw (lt-leb 2 (length bs) h)
+too-few AuthenticationRes bs h = rw (lt-leb 2 (length bs) h)
+too-few ProxyRes bs h = rw (lt-leb 3 (length bs) h)
+too-few Response bs h = rw (lt-leb 8 (length bs) h)
 
 -- ---- from a place of held bytes and a piece
 
-pub from-piece : (h p : List ℕ) (place : ℕ) → length h ≤ place → take (length p - (place - length h)) (drop (place - length h) p) ≡ drop place (h ++ p)
-from-piece h p place l =
-    let z : place ≡ length h + (place - length h) = omega arith in
-    part-from p (place - length h)
-    ∙ sym (ap (λ (n : ℕ). drop n (h ++ p)) z ∙ drop-append-add h p (place - length h))
+pub any-byte : (h p : List ℕ) → ((i : ℕ) → byte h i ≤ 255) → ((i : ℕ) → byte p i ≤ 255) → (i : ℕ) → byte (h ++ p) i ≤ 255
+any-byte h p u v i = go (ltb i (length h)) refl
+  where
+    go : (b : Bool) → ltb i (length h) ≡ b → byte (h ++ p) i ≤ 255
+    go true e = rw (List·getD-append h p 0 i (ltb-true i (length h) e)) (u i)
+    go false e = let k = ltb-false i (length h) e in let z : i ≡ length h + (i - length h) = omega arith in rw (z, getD-append-add h p (i - length h) 0) (v (i - length h))
 
-pub from-held : (h p : List ℕ) (place : ℕ) → place ≤ length h → take (length h - place) (drop place h) ++ p ≡ drop place (h ++ p)
-from-held h p place l =
-    ap (λ (t : List ℕ). t ++ p) (part-from h place) ∙ sym (drop-append-le place h p l)
+unread : (h p : List ℕ) (place a : ℕ) → a ≡ min place (length h) → drop a h ++ drop (place - a) p ≡ drop place (h ++ p)
+unread h p place a e = go (leb place (length h)) refl
+  where
+    go : (b : Bool) → leb place (length h) ≡ b → drop a h ++ drop (place - a) p ≡ drop place (h ++ p)
+    go true f =
+        let k = leb-true place (length h) f in
+        let x : a ≡ place = omega arith in
+        let z : place - place ≡ 0 = omega arith in
+        rw (x, z) (sym (drop-append-le place h p k))
+    go false f =
+        let k = leb-false place (length h) f in
+        let x : a ≡ length h = omega arith in
+        let z : length h + (place - length h) ≡ place = omega arith in
+        rw (x, drop-length h) (sym (drop-append-add h p (place - length h)) ∙ ap (λ (n : ℕ). drop n (h ++ p)) z)
+
+pub unread-parts : (h p : List ℕ) (place a : ℕ) → a ≡ min place (length h)
+    → take (length h - a) (drop a h) ++ take (length p - (place - a)) (drop (place - a) p) ≡ drop place (h ++ p)
+unread-parts h p place a e = rw (part-from h a, part-from p (place - a)) (unread h p place a e)
+
+-- ---- bytes moved to the start
+
+module _ (h : List ℕ) (from : ℕ) where
+  -- a byte behind those moved so far stands where it stood
+  unmoved : (i : ℕ) → from + i < length h → getD (paste h 0 (drop from h) i) (from + i) 0 ≡ getD (drop from h) i 0
+  unmoved i k =
+      let l : i ≤ length (drop from h) = rw length-drop (omega arith) in
+      let z : from + i ≡ 0 + i + from = omega arith in
+      rw (getD-drop from h i 0, z)
+      (sym (getD-drop (0 + i) (paste h 0 (drop from h) i) from 0) ∙ ap (λ (t : List ℕ). getD t from 0) (drop-paste h 0 (drop from h) i (omega arith) l) ∙ getD-drop (0 + i) h from 0)
+
+  pub moved : {l : List ℕ} (i : ℕ) → from + i < length h → l ≡ paste h 0 (drop from h) i → set l i (getD l (from + i) 0) ≡ paste h 0 (drop from h) (i + 1)
+  moved i k e =
+      let l : i < length (drop from h) = rw length-drop (omega arith) in
+      rw (e, unmoved i k, add-one i)
+      (ap (λ (j : ℕ). set (paste h 0 (drop from h) i) j (getD (drop from h) i 0)) (sym (zero-add i)) ∙ paste-suc h 0 (drop from h) i 0 (omega arith) l)
+
+  pub moved-length : {l : List ℕ} (i : ℕ) → from + i ≤ length h → l ≡ paste h 0 (drop from h) i → length l ≡ length h
+  moved-length i k e = ap length e ∙ length-paste h 0 (drop from h) i (omega arith) (rw length-drop (omega arith))
+
+  pub all-moved : (n : ℕ) → from + n ≤ length h → paste h 0 (drop from h) n ≡ overwrite h 0 (take n (drop from h))
+  unfolding overwrite
+  all-moved n k = let l : n ≤ length (drop from h) = rw length-drop (omega arith) in rw (length-take-le n (drop from h) l)
 
 -- ---- what is unread, kept at the start of a hold
 
-module _ (h p : List ℕ) (place : ℕ) {hold next₁ : List ℕ} {r : Written} (long : length hold ≡ 261) (few : length h + length p ≤ place + 261) where
-  pub kept-piece : length h ≤ place → Writes true hold 0 (take (length p - (place - length h)) (drop (place - length h) p)) r next₁ → next₁ ≡ overwrite hold 0 (drop place (h ++ p))
-  kept-piece l w =
-      let e = from-piece h p place l in
-      let z : length (take (length p - (place - length h)) (drop (place - length h) p)) ≤ 261 = rw e (rw (length-drop place (h ++ p), length-append h p) (omega arith)) in
-      fitted w (omega arith) .bytes ∙ ap (overwrite hold 0) e
+module _ (hold : List ℕ) (n place : ℕ) (long : n ≤ length hold) where
+  pub kept-piece : (p : List ℕ) {next : ℕ} {hold₁ : List ℕ} → n ≤ place → Wrote hold 0 (take (length p - (place - n)) (drop (place - n) p)) next hold₁ → hold₁ ≡ overwrite hold 0 (drop place (take n hold ++ p))
+  kept-piece p k w =
+      let l = length-take-le n hold long in
+      let z : length (take n hold) + (place - n) ≡ place = omega arith in
+      w .bytes
+      ∙ ap (overwrite hold 0) (part-from p (place - n) ∙ sym (drop-append-add (take n hold) p (place - n)) ∙ ap (λ (j : ℕ). drop j (take n hold ++ p)) z)
 
-  pub kept-both : {next₂ : List ℕ} {s : Written} → place < length h → Writes true hold 0 (take (length h - place) (drop place h)) r next₁ → Writes true next₁ (length h - place) p s next₂ → next₂ ≡ overwrite hold 0 (drop place (h ++ p))
-  kept-both {next₂} {s} l v w =
-      let part = take (length h - place) (drop place h) in
-      let z : length part ≡ length h - place = length-take (length h - place) (drop place h) ∙ rw (length-drop place h) (omega arith) in
-      let f : Wrote hold 0 part (length h - place) next₁ = rw (zero-add, z) at (fitted v (omega arith)) in
-      let n = wrote-length f in
-      then f (fitted w (omega arith)) .bytes ∙ ap (overwrite hold 0) (from-held h p place (omega arith))
+  -- nothing is moved from the start
+  pub unshifted : place ≤ 0 → hold ≡ overwrite hold 0 (take (n - place) (drop place hold))
+  unfolding overwrite
+  unshifted k =
+      let e : place ≡ 0 = omega arith in
+      let z : n - 0 ≡ n = omega arith in
+      rw (e, z, length-take-le n hold long, zero-add n) (sym (take-append-drop n hold))
+
+  -- what is left of the held bytes, at the start, and the piece behind it
+  module _ {hold₁ : List ℕ} (k : place < n) (e : hold₁ ≡ overwrite hold 0 (take (n - place) (drop place hold))) where
+    left-length : length (take (n - place) (drop place hold)) ≡ n - place
+    left-length = length-take-le (n - place) (drop place hold) (rw length-drop (omega arith))
+
+    pub shifted-length : length hold₁ ≡ length hold
+    shifted-length = let l = left-length in ap length e ∙ length-overwrite hold 0 (take (n - place) (drop place hold)) (omega arith)
+
+    pub rest-fits : (p : List ℕ) → length hold ≡ 261 → n + length p ≤ place + 261 → n - place + length p ≤ length hold₁
+    rest-fits p h f = let l = shifted-length in omega arith
+
+    pub kept-both : (p : List ℕ) {next : ℕ} {hold₂ : List ℕ} → Wrote hold₁ (n - place) p next hold₂ → hold₂ ≡ overwrite hold 0 (drop place (take n hold ++ p))
+    kept-both p w =
+        let part : List ℕ = take (n - place) (drop place hold) in
+        let l = left-length in
+        let z : n - place ≡ 0 + length part = omega arith in
+        let y : n ≡ place + (n - place) = omega arith in
+        let s : take n hold ≡ take place hold ++ part = ap (λ (j : ℕ). take j hold) y ∙ take-add place (n - place) hold in
+        let u : part ++ p ≡ drop place (take n hold ++ p) = rw (s, append-assoc) (sym (drop-at (take place hold) (part ++ p) place (length-take-le place hold (omega arith)))) in
+        w .bytes
+        ∙ ap (λ (t : List ℕ). overwrite t (n - place) p) e
+        ∙ ap (λ (j : ℕ). overwrite (overwrite hold 0 part) j p) z
+        ∙ overwrite-more hold 0 part (omega arith) p
+        ∙ ap (overwrite hold 0) u

@@ -8,6 +8,7 @@ use borrow.Author.Tests.{le-leb}
 use Rattle.protocol.specs.declared.SocksError.the-variants.{Parsing}
 use Rattle.protocol.specs.declared.Verdict.{Verdict}
 use Rattle.protocol.specs.declared.Verdict.the-variants.{Bad}
+use Rattle.protocol.specs.declared.Decision.{Decision}
 use Rattle.protocol.specs.declared.Decision.the-variants.{Decided}
 use Rattle.protocol.specs.Bytes.{byte}
 use Rattle.protocol.specs.Replies.{headAllowed, typeAllowed, proxySize, proxyVerdict, nameField, wholeAt, typeAt, proxyAt}
@@ -31,8 +32,8 @@ module _ (bs : List ℕ) (p : Two) (k : CameTwo bs 3 2 p) where
   same-type : typeAllowed (p .first) (p .second) ≡ typeAllowed (byte bs 3) (byte bs 4)
   same-type = let a = k .first in let b = k .second in cc
 
-  pub type-passed : typeAllowed (p .first) (p .second) ≡ true → wholeAt (proxySize (p .first) (p .second)) bs ≡ typeAt bs
-  type-passed t = rw (le-leb 5 (length bs) (k .inside), sym same-type ∙ t) (ap (λ (n : ℕ). wholeAt n bs) sizes)
+  pub type-passed : (d : Decision) → d ≡ wholeAt (proxySize (p .first) (p .second)) bs → typeAllowed (p .first) (p .second) ≡ true → d ≡ typeAt bs
+  type-passed d e t = rw (le-leb 5 (length bs) (k .inside), sym same-type ∙ t) (e ∙ ap (λ (n : ℕ). wholeAt n bs) sizes)
     where
       sizes : proxySize (p .first) (p .second) ≡ proxySize (byte bs 3) (byte bs 4)
       sizes = let a = k .first in let b = k .second in cc

@@ -1,7 +1,8 @@
 // SOCKS5 (RFC 1928, RFC 1929): readers for NegotiationRes, AuthenticationRes and ProxyRes.
 ghost use mathlib.Core.Path.{_≡_};
-ghost use mathlib.Core.Bool.{true, cond, not, _||_};
-ghost use Prim.Native.Nat.{_+_, _≤_, _<_};
+ghost use mathlib.Core.Bool.{cond, not, _||_};
+ghost use mathlib.Core.List.{_++_};
+ghost use Prim.Native.Nat.{_+_, _-_, _≤_};
 ghost use lib.ListN.{length, take, drop};
 ghost use lib.Dec.{eqb};
 ghost use Rattle.protocol.specs.Requests.{methodByte};
@@ -18,6 +19,7 @@ use protocol::Verdict;
 use reader::bytes_at;
 use reader::three_at;
 use reader::two_at;
+use wire::least;
 use wire::method_byte;
 use wire::wide;
 
@@ -51,10 +53,11 @@ fn negotiation_verdict(sent: AuthMethod, ver: u8, method: u8) -> Verdict
 }
 
 // NegotiationRes: the version and the method chosen, in answer to the method sent.
-pub fn read_negotiation_res(bytes: &[u8], sent: AuthMethod) -> Decision
-    ensures { λ r. ⌜ r ≡ decide (Reply.NegotiationRes sent) (now (bytes .entry)) ⌝ }
+pub fn read_negotiation_res(held: &[u8], piece: &[u8], sent: AuthMethod) -> Decision
+    requires { ⌜ length (now held) ≤ 261 ⌝ }
+    ensures { λ r. ⌜ r ≡ decide (Reply.NegotiationRes sent) (now (held .entry) ++ now (piece .entry)) ⌝ }
 {
-    let p = two_at(bytes, 0);
+    let p = two_at(held, piece, 0);
     if p.came {
         return Decision::Decided(p.at, negotiation_verdict(sent, p.first, p.second));
     }
@@ -74,10 +77,11 @@ fn authentication_verdict(ver: u8, status: u8) -> Verdict
 }
 
 // AuthenticationRes: the version and a status.
-pub fn read_authentication_res(bytes: &[u8]) -> Decision
-    ensures { λ r. ⌜ r ≡ decide Reply.AuthenticationRes (now (bytes .entry)) ⌝ }
+pub fn read_authentication_res(held: &[u8], piece: &[u8]) -> Decision
+    requires { ⌜ length (now held) ≤ 261 ⌝ }
+    ensures { λ r. ⌜ r ≡ decide Reply.AuthenticationRes (now (held .entry) ++ now (piece .entry)) ⌝ }
 {
-    let p = two_at(bytes, 0);
+    let p = two_at(held, piece, 0);
     if p.came {
         return Decision::Decided(p.at, authentication_verdict(p.first, p.second));
     }
@@ -115,7 +119,7 @@ fn type_allowed(atyp: u8, len: u8) -> bool
 
 // How many bytes of a ProxyRes stand behind its first five.
 fn rest_size(atyp: u8, len: u8) -> usize
-    ensures { λ r. ⌜ 5 + r ≡ proxySize atyp len ⌝ }
+    ensures { λ r. ⌜ (5 + r ≡ proxySize atyp len) × (r ≤ 257) ⌝ }
 {
     if atyp == 0x01 {
         return 5;
@@ -126,24 +130,36 @@ fn rest_size(atyp: u8, len: u8) -> usize
     2 + wide(len)
 }
 
+// Whether the bytes from a place to another are UTF-8.
+fn is_utf8_at(held: &[u8], piece: &[u8], from: usize, to: usize) -> bool
+    requires { ⌜ (length (now held) ≤ 261) × (from ≤ to) × (to ≤ length (now held ++ now piece)) ⌝ }
+    ensures { λ r. ⌜ r ≡ isUtf8 (take (to - from) (drop from (now (held .entry) ++ now (piece .entry)))) ⌝ }
+{
+    let n = held.len();
+    let a = least(from, n);
+    let b = least(to, n);
+    let c = from - a;
+    let d = to - b;
+    utf8::is_utf8_in_two(&held[a..b], &piece[c..d])
+}
+
 // Whether the name at a place is UTF-8, where there is one.
-fn name_allowed(bytes: &[u8], at: usize, atyp: u8, len: u8) -> bool
-    requires { ⌜ (atyp ≡ 0x03 → at + len ≤ length (now bytes)) ⌝ }
-    ensures { λ r. ⌜ r ≡ (not (eqb atyp 0x03) || isUtf8 (take len (drop at (now (bytes .entry))))) ⌝ }
+fn name_allowed(held: &[u8], piece: &[u8], at: usize, atyp: u8, len: u8) -> bool
+    requires { ⌜ (length (now held) ≤ 261) × (at ≡ 5) × (atyp ≡ 0x03 → at + len ≤ length (now held ++ now piece)) ⌝ }
+    ensures { λ r. ⌜ r ≡ (not (eqb atyp 0x03) || isUtf8 (take len (drop at (now (held .entry) ++ now (piece .entry))))) ⌝ }
 {
     if atyp != 0x03 {
         return true;
     }
-    let end = at + wide(len);
-    utf8::is_utf8(&bytes[at..end])
+    is_utf8_at(held, piece, at, at + wide(len))
 }
 
 // How a whole ProxyRes is judged, whose name would stand at a place.
-fn proxy_verdict(bytes: &[u8], at: usize, rep: u8, atyp: u8, len: u8) -> Verdict
-    requires { ⌜ (atyp ≡ 0x03 → at + len ≤ length (now bytes)) ⌝ }
-    ensures { λ r. ⌜ r ≡ proxyVerdict rep atyp (take len (drop at (now (bytes .entry)))) ⌝ }
+fn proxy_verdict(held: &[u8], piece: &[u8], at: usize, rep: u8, atyp: u8, len: u8) -> Verdict
+    requires { ⌜ (length (now held) ≤ 261) × (at ≡ 5) × (atyp ≡ 0x03 → at + len ≤ length (now held ++ now piece)) ⌝ }
+    ensures { λ r. ⌜ r ≡ proxyVerdict rep atyp (take len (drop at (now (held .entry) ++ now (piece .entry)))) ⌝ }
 {
-    if name_allowed(bytes, at, atyp, len) {
+    if name_allowed(held, piece, at, atyp, len) {
         if rep != 0x00 {
             return Verdict::Bad(SocksError::Command(rep));
         }
@@ -153,26 +169,26 @@ fn proxy_verdict(bytes: &[u8], at: usize, rep: u8, atyp: u8, len: u8) -> Verdict
 }
 
 // A ProxyRes behind its first five bytes, whose type may stand.
-fn whole_at(bytes: &[u8], at: usize, rep: u8, atyp: u8, len: u8) -> Decision
-    requires { ⌜ (at ≡ 5) × (rep ≡ byte (now bytes) 1) × (atyp ≡ byte (now bytes) 3) × (len ≡ byte (now bytes) 4) ⌝ }
-    ensures { λ r. ⌜ r ≡ wholeAt (proxySize atyp len) (now (bytes .entry)) ⌝ }
+fn whole_at(held: &[u8], piece: &[u8], at: usize, rep: u8, atyp: u8, len: u8) -> Decision
+    requires { ⌜ (length (now held) ≤ 261) × (at ≡ 5) × (rep ≡ byte (now held ++ now piece) 1) × (atyp ≡ byte (now held ++ now piece) 3) × (len ≡ byte (now held ++ now piece) 4) ⌝ }
+    ensures { λ r. ⌜ r ≡ wholeAt (proxySize atyp len) (now (held .entry) ++ now (piece .entry)) ⌝ }
 {
-    let p = bytes_at(bytes, at, rest_size(atyp, len));
+    let p = bytes_at(held, piece, at, rest_size(atyp, len));
     if p.came {
-        return Decision::Decided(p.at, proxy_verdict(bytes, at, rep, atyp, len));
+        return Decision::Decided(p.at, proxy_verdict(held, piece, at, rep, atyp, len));
     }
     Decision::Undecided
 }
 
 // A ProxyRes from its type on, whose head may stand.
-fn type_at(bytes: &[u8], at: usize, rep: u8) -> Decision
-    requires { ⌜ (at ≡ 3) × (rep ≡ byte (now bytes) 1) ⌝ }
-    ensures { λ r. ⌜ r ≡ typeAt (now (bytes .entry)) ⌝ }
+fn type_at(held: &[u8], piece: &[u8], at: usize, rep: u8) -> Decision
+    requires { ⌜ (length (now held) ≤ 261) × (at ≡ 3) × (rep ≡ byte (now held ++ now piece) 1) ⌝ }
+    ensures { λ r. ⌜ r ≡ typeAt (now (held .entry) ++ now (piece .entry)) ⌝ }
 {
-    let t = two_at(bytes, at);
+    let t = two_at(held, piece, at);
     if t.came {
         if type_allowed(t.first, t.second) {
-            return whole_at(bytes, t.at, rep, t.first, t.second);
+            return whole_at(held, piece, t.at, rep, t.first, t.second);
         }
         return Decision::Decided(t.at, Verdict::Bad(SocksError::Parsing));
     }
@@ -180,13 +196,14 @@ fn type_at(bytes: &[u8], at: usize, rep: u8) -> Decision
 }
 
 // ProxyRes: the version, a status, a reserved byte, the address field, the port. Decided at 3 bytes, at 5, or whole.
-pub fn read_proxy_res(bytes: &[u8]) -> Decision
-    ensures { λ r. ⌜ r ≡ decide Reply.ProxyRes (now (bytes .entry)) ⌝ }
+pub fn read_proxy_res(held: &[u8], piece: &[u8]) -> Decision
+    requires { ⌜ length (now held) ≤ 261 ⌝ }
+    ensures { λ r. ⌜ r ≡ decide Reply.ProxyRes (now (held .entry) ++ now (piece .entry)) ⌝ }
 {
-    let h = three_at(bytes, 0);
+    let h = three_at(held, piece, 0);
     if h.came {
         if head_allowed(h.first, h.second, h.third) {
-            return type_at(bytes, h.at, h.second);
+            return type_at(held, piece, h.at, h.second);
         }
         return Decision::Decided(h.at, Verdict::Bad(SocksError::Parsing));
     }

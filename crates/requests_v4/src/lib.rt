@@ -1,14 +1,12 @@
 // SOCKS4 and SOCKS4A (the memos): writers for Request.
-ghost use mathlib.Core.Bool.{true};
+ghost use mathlib.Core.Path.{_≡_};
 ghost use mathlib.Core.List.{_∷_};
 ghost use Prim.Native.Nat.{_+_, _≤_};
 ghost use lib.ListN.{length};
 ghost use Rattle.protocol.specs.Bytes.{two};
 ghost use Rattle.protocol.specs.Requests.{address, name, request};
-ghost use Rattle.wire.specs.Written.{Wrote, Writes};
-use wire::Written;
+ghost use Rattle.wire.specs.Written.{Wrote};
 use wire::copy;
-use wire::has_room;
 use wire::put_byte;
 use wire::put_port;
 
@@ -21,26 +19,18 @@ fn put_head(out: &mut [u8], at: usize, port: u16) -> usize
     put_port(out, next, port)
 }
 
-fn put_address(out: &mut [u8], at: usize, ip: [u8; 4], port: u16) -> usize
-    requires { ⌜ at + 9 ≤ length (now out) ⌝ }
-    ensures { λ r. ⌜ Wrote (now (out .entry)) at (request (address ip) port) r (now (out .exit)) ⌝ }
+// Request for an address: behind the head the address, and the end of an empty user id.
+pub fn put_address(out: &mut [u8], at: usize, ip: &[u8], port: u16) -> usize
+    requires { ⌜ (length (now ip) ≡ 4) × (at + 9 ≤ length (now out)) ⌝ }
+    ensures { λ r. ⌜ Wrote (now (out .entry)) at (request (address (now (ip .entry))) port) r (now (out .exit)) ⌝ }
 {
     let a = put_head(out, at, port);
-    let b = copy(out, a, &ip);
+    let b = copy(out, a, ip);
     put_byte(out, b, 0)
 }
 
-// Request for an address: behind the head the address, and the end of an empty user id.
-pub fn write_request_address(out: &mut [u8], at: usize, ip: [u8; 4], port: u16) -> Written
-    ensures { λ r. ⌜ Writes true (now (out .entry)) at (request (address ip) port) r (now (out .exit)) ⌝ }
-{
-    if has_room(out.len(), at, 9) {
-        return Written::At(put_address(out, at, ip, port));
-    }
-    Written::WouldOverflow
-}
-
-fn put_name(out: &mut [u8], at: usize, host: &[u8], port: u16) -> usize
+// Request for a name: behind the head an address that announces it, the end of an empty user id, and the name with its own end.
+pub fn put_name(out: &mut [u8], at: usize, host: &[u8], port: u16) -> usize
     requires { ⌜ at + (length (now host) + 10) ≤ length (now out) ⌝ }
     ensures { λ r. ⌜ Wrote (now (out .entry)) at (request (name (now (host .entry))) port) r (now (out .exit)) ⌝ }
 {
@@ -48,18 +38,4 @@ fn put_name(out: &mut [u8], at: usize, host: &[u8], port: u16) -> usize
     let b = copy(out, a, b"\x00\x00\x00\xFF\x00");
     let c = copy(out, b, host);
     put_byte(out, c, 0)
-}
-
-// Request for a name: behind the head an address that announces it, the end of an empty user id, and the name with its own end.
-pub fn write_request_name(out: &mut [u8], at: usize, host: &[u8], port: u16) -> Written
-    ensures { λ r. ⌜ Writes true (now (out .entry)) at (request (name (now (host .entry))) port) r (now (out .exit)) ⌝ }
-{
-    let len = out.len();
-    if len < 10 {
-        return Written::WouldOverflow;
-    }
-    if has_room(len - 10, at, host.len()) {
-        return Written::At(put_name(out, at, host, port));
-    }
-    Written::WouldOverflow
 }

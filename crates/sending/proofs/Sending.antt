@@ -1,61 +1,66 @@
--- A request that is due: gone already, over the limit, or sent.
-use Prim.Native.Nat.{ℕ, _+_, _≤_}
-use native.Mathlib.Nat.{add-zero}
+-- What is kept is within its limits, and what a reply makes due stands where it is said to stand.
+use Prim.Native.Nat.{ℕ, _+_, _≤_, min}
 use native.Mathlib.Omega.{arith}
-use mathlib.Core.Path.{_≡_, ap, sym, _∙_, subst}
-use mathlib.Core.Bool.{Bool, true, false, _&&_}
-use mathlib.Core.List.{List, [], _++_}
-use lib.ListN.{length, take, drop, length-take, take-append-drop}
-use lib.Dec.{leb}
-use borrow.Author.Tests.{le-leb}
-use Rattle.protocol.specs.declared.AddressKind.{AddressKind}
-use Rattle.protocol.specs.declared.AddressKind.the-variants.{Ipv4, Ipv6, Domain}
-use Rattle.protocol.specs.Requests.{authenticationReq, proxyReq, kindOf}
-use Rattle.requests_v5.specs.Sizes.{addressSize}
-use Rattle.wire.specs.declared.Written.{Written}
-use Rattle.wire.specs.Written.{overwrite, Wrote, Writes}
-use Rattle.requests_v5.proofs.Sizes.{proxy-size}
-use Rattle.protocol.proofs.Limits.{credentials-limit}
-use Rattle.sending.specs.declared.Kept.{Kept}
-use Rattle.sending.specs.Stages.{requestsOf, Limited}
-use Rattle.sending.specs.Due.{unlessGone}
+use mathlib.Core.Path.{_≡_, refl, sym, _∙_}
+use mathlib.Core.Bool.{Bool, true, false}
+use mathlib.Core.List.{List, []}
+use lib.ListN.{length, take, drop, length-take}
+use Rattle.protocol.specs.Client.{Kept}
+use Rattle.protocol.specs.declared.AuthMethod.the-variants.{NoAuth, UserPass, NoneAcceptable}
+use Rattle.protocol.specs.declared.Reply.{Reply}
+use Rattle.protocol.specs.declared.Reply.the-variants.{NegotiationRes, AuthenticationRes, ProxyRes, Response}
+use Rattle.sending.specs.declared.Lengths.{Lengths}
+use Rattle.sending.specs.declared.Requests.{Requests}
+use Rattle.sending.specs.declared.Due.{Due}
+use Rattle.sending.specs.declared.Stage.{Stage}
+use Rattle.sending.specs.declared.Stage.the-variants.{Awaiting}
+use Rattle.sending.specs.Parts.{part, negotiationSize, authenticationSize, proxySize, authenticationOf, proxyOf, requestsOf, Limited}
+use Rattle.sending.specs.Due.{unlessGone, authenticationDue, proxyDue, dueAfter, authenticationFirst, dueFrom, stillDue}
 
-pub wrote-none : (out : List ℕ) (at : ℕ) → at ≤ length out → Wrote out at [] at out
-unfolding overwrite
-wrote-none out at h =
-    record { inside = omega arith; place = sym (add-zero at); bytes = sym (ap (λ (n : ℕ). take at out ++ drop n out) (add-zero at) ∙ take-append-drop at out) }
+part-small : (bs : List ℕ) (from n most : ℕ) → length (part bs from (min n most)) ≤ most
+part-small bs from n most = omega (arith, length-take (min n most) (drop from bs))
 
--- what went at the opening is not sent again
-pub gone : {o : Bool} (q out : List ℕ) (at : ℕ) → o ≡ true → at ≤ length out → Wrote out at (unlessGone o q) at out
-gone q out at g h = rw g (wrote-none out at h)
+-- F-4: whatever a session value keeps, each request is within its limit
+pub kept-limits : (r : Requests) → Limited (requestsOf r)
+kept-limits r =
+    record {
+      authentication = part-small (r .bytes) (negotiationSize (r .lengths)) (r .lengths .authentication) 513;
+      proxy = part-small (r .bytes) (negotiationSize (r .lengths) + authenticationSize (r .lengths)) (r .lengths .proxy) 262;
+    }
 
-pub goes : {o : Bool} {q out out′ : List ℕ} {at next : ℕ} → o ≡ false → Wrote out at q next out′ → Wrote out at (unlessGone o q) next out′
-goes g w = rw g w
+few : (o : Bool) (n : ℕ) → unlessGone o n ≤ n
+few true n = omega arith
+few false n = omega arith
 
-kind-small : (k : AddressKind) (n : ℕ) → addressSize k n ≤ n + 2
-kind-small Ipv4 n = omega arith
-kind-small Ipv6 n = omega arith
-kind-small Domain n = omega arith
+-- what a good reply makes due, and what may still be due behind it
+pub still-after : (l : Lengths) (e : Reply) → dueAfter l e .len + stillDue (dueAfter l e .stage) ≤ stillDue (Awaiting e)
+still-after l (NegotiationRes NoAuth) = omega (arith, few (l .optimistic) (proxySize l))
+still-after l (NegotiationRes UserPass) = omega (arith, few (l .optimistic) (authenticationSize l))
+still-after l (NegotiationRes NoneAcceptable) = omega arith
+still-after l AuthenticationRes = omega (arith, few (l .optimistic) (proxySize l))
+still-after l ProxyRes = omega arith
+still-after l Response = omega arith
 
--- a ProxyReq has at most 262 bytes
-pub proxy-small : (k : AddressKind) (n : ℕ) (bs : List ℕ) (port : ℕ) → n ≤ 255 → length (proxyReq (kindOf k (take n bs)) port) ≤ 262
-proxy-small k n bs port h = omega (arith, proxy-size k (take n bs) port, kind-small k (length (take n bs)), length-take n bs)
+pub from-small : (l : Lengths) → negotiationSize l + authenticationDue l ≤ 516
+from-small l = omega (arith, few (l .optimistic) (authenticationSize l))
 
--- and an AuthenticationReq at most 513
-pub authentication-small : (u p : List ℕ) (n m : ℕ) → n ≤ 255 → m ≤ 255 → length (authenticationReq (take n u) (take m p)) ≤ 513
-authentication-small u p n m h k = credentials-limit (take n u) (take m p) (omega (arith, length-take n u)) (omega (arith, length-take m p))
+-- all that may still be due stands among the first 778 bytes
+pub due-inside : (l : Lengths) (e : Reply) → dueFrom l e + stillDue (Awaiting e) ≤ 778
+due-inside l (NegotiationRes NoAuth) = omega (arith, from-small l)
+due-inside l (NegotiationRes UserPass) = omega arith
+due-inside l (NegotiationRes NoneAcceptable) = omega (arith, from-small l)
+due-inside l AuthenticationRes = omega (arith, from-small l)
+due-inside l ProxyRes = omega (arith, from-small l)
+due-inside l Response = omega (arith, from-small l)
 
--- F-4: whatever a session value keeps, each request is within its limit; its counts are bytes
-pub kept-limits : (k : Kept) → k .«user_len» ≤ 255 → k .«password_len» ≤ 255 → k .address .len ≤ 255
-    → Limited (requestsOf k)
-kept-limits k h i j = record { authentication = authentication-small (k .user) (k .password) (k .«user_len») (k .«password_len») h i; proxy = proxy-small (k .address .kind) (k .address .len) (k .address .bytes) (k .address .port) j }
+-- ---- where what is due begins
 
--- two parts of arrays of 255, as many bytes as numbers equal to their counts say
-pub kept-writes : (u p : List ℕ) {i j n m : ℕ} {out out′ : List ℕ} {at : ℕ} {r : Written} → n ≡ i → m ≡ j → length u ≡ 255 → length p ≡ 255
-    → Writes (leb (length (take n u)) 255 && leb (length (take m p)) 255) out at (authenticationReq (take n u) (take m p)) r out′
-    → Writes true out at (authenticationReq (take i u) (take j p)) r out′
-kept-writes u p {i} {j} {n} {m} {out} {out′} {at} {r} a b lu lp w =
-    let wu = le-leb (length (take n u)) 255 (omega (arith, length-take n u)) in
-    let wp = le-leb (length (take m p)) 255 (omega (arith, length-take m p)) in
-    let ok : leb (length (take n u)) 255 && leb (length (take m p)) 255 ≡ true = rw (wu, wp) in
-    rw (sym a, sym b) (subst (λ (o : Bool). Writes o out at (authenticationReq (take n u) (take m p)) r out′) ok w)
+module _ (l : Lengths) (e : Reply) {first : Bool} {at : ℕ} (f : first ≡ authenticationFirst e) where
+  pub from-first : first ≡ true → at ≡ min (l .first) 3 → at ≡ dueFrom l e
+  from-first t a = a ∙ rw (sym f ∙ t)
+
+  pub from-next : first ≡ false → at ≡ min (l .first) 3 → {n : ℕ} → n ≡ authenticationDue l → at + n ≡ dueFrom l e
+  from-next t a q = rw (sym f ∙ t, a, q)
+
+abbrev pub due : Stage → ℕ → Due
+due s n = record { stage = s; len = n }

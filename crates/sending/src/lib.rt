@@ -1,19 +1,11 @@
-// What a good reply makes due, sent: requests written from what a session keeps.
-ghost use mathlib.Core.Bool.{true};
-ghost use Prim.Native.Nat.{_+_, _≤_};
-ghost use lib.ListN.{length};
-ghost use Rattle.wire.specs.Written.{Wrote, Writes};
-ghost use Rattle.sending.specs.Stages.{requestsOf};
-ghost use Rattle.sending.specs.Due.{unlessGone, dueMethod, dueAfter, dueJudged, stillDue, Sends};
-ghost use Rattle.sending.specs.declared.Stage.the-variants as Stage;
-use protocol::Address;
+// What a session keeps to send, and how much of it a reply makes due.
+ghost use mathlib.Core.Path.{_≡_};
+ghost use Rattle.sending.specs.Due.{unlessGone, authenticationDue, proxyDue, dueAfterMethod, dueAfter, dueJudged, dueFrom, authenticationFirst, isUserPass};
 use protocol::AuthMethod;
 use protocol::Reply;
 use protocol::SocksError;
 use protocol::Verdict;
-use wire::Written;
-use wire::place;
-use wire::wide;
+use wire::least;
 
 // Which reply a session waits for, or how it ended.
 pub enum Stage {
@@ -22,124 +14,131 @@ pub enum Stage {
     Failed(SocksError),
 }
 
-// What a session keeps of its opening.
-pub struct Kept {
+// How many bytes the requests of an opening have: the first, which is a NegotiationReq over v5 and a Request over v4, an AuthenticationReq
+// and a ProxyReq. optimistic: all went at the opening.
+pub struct Lengths {
     pub optimistic: bool,
-    pub address: Address,
-    pub user: [u8; 255],
-    pub user_len: u8,
-    pub password: [u8; 255],
-    pub password_len: u8,
+    pub first: usize,
+    pub authentication: usize,
+    pub proxy: usize,
 }
 
-// The stage behind a good reply, and the place in the output behind what was sent.
+// The requests of an opening as the bytes that go, one behind the other.
+pub struct Requests {
+    pub lengths: Lengths,
+    pub bytes: [u8; 1024],
+}
+
+// The stage behind a reply, and how many bytes it makes due.
 pub struct Due {
     pub stage: Stage,
-    pub sent: usize,
+    pub len: usize,
 }
 
-// The ProxyReq of what is kept, and the place behind it.
-pub fn put_proxy(kept: Kept, out: &mut [u8], at: usize) -> usize
-    requires { ⌜ at + 262 ≤ length (now out) ⌝ }
-    ensures { λ r. ⌜ Wrote (now (out .entry)) at (requestsOf kept .proxy) r (now (out .exit)) ⌝ }
+// What went at the opening is not due again.
+fn unless_gone(optimistic: bool, len: usize) -> usize
+    ensures { λ r. ⌜ r ≡ unlessGone optimistic len ⌝ }
 {
-    let address = kept.address;
-    place(requests_v5::write_proxy_req(out, at, address), at)
-}
-
-// The AuthenticationReq of what is kept.
-fn write_authentication(kept: Kept, out: &mut [u8], at: usize) -> Written
-    ensures { λ r. ⌜ Writes true (now (out .entry)) at (requestsOf kept .authentication) r (now (out .exit)) ⌝ }
-{
-    let user = kept.user;
-    let password = kept.password;
-    let n = wide(kept.user_len);
-    let m = wide(kept.password_len);
-    requests_v5::write_authentication_req(out, at, &user[..n], &password[..m])
-}
-
-// The AuthenticationReq of what is kept, and the place behind it.
-pub fn put_authentication(kept: Kept, out: &mut [u8], at: usize) -> usize
-    requires { ⌜ at + 513 ≤ length (now out) ⌝ }
-    ensures { λ r. ⌜ Wrote (now (out .entry)) at (requestsOf kept .authentication) r (now (out .exit)) ⌝ }
-{
-    place(write_authentication(kept, out, at), at)
-}
-
-// The ProxyReq, if it is due.
-fn send_proxy(kept: Kept, out: &mut [u8], at: usize) -> usize
-    requires { ⌜ at + 262 ≤ length (now out) ⌝ }
-    ensures { λ r. ⌜ Wrote (now (out .entry)) at (unlessGone (kept .optimistic) (requestsOf kept .proxy)) r (now (out .exit)) ⌝ }
-{
-    if kept.optimistic {
-        return at;
+    if optimistic {
+        return 0;
     }
-    put_proxy(kept, out, at)
+    len
 }
 
-// The AuthenticationReq, if it is due.
-fn send_authentication(kept: Kept, out: &mut [u8], at: usize) -> usize
-    requires { ⌜ at + 513 ≤ length (now out) ⌝ }
-    ensures { λ r. ⌜ Wrote (now (out .entry)) at (unlessGone (kept .optimistic) (requestsOf kept .authentication)) r (now (out .exit)) ⌝ }
+fn authentication_due(lengths: Lengths) -> usize
+    ensures { λ r. ⌜ r ≡ authenticationDue lengths ⌝ }
 {
-    if kept.optimistic {
-        return at;
-    }
-    put_authentication(kept, out, at)
+    unless_gone(lengths.optimistic, least(lengths.authentication, 513))
 }
 
-fn send_after_method(kept: Kept, method: AuthMethod, out: &mut [u8], at: usize) -> Due
-    requires { ⌜ at + 775 ≤ length (now out) ⌝ }
-    ensures { λ r. ⌜ Sends (dueMethod (requestsOf kept) method) (now (out .entry)) at (r .stage) (r .sent) (now (out .exit)) ⌝ }
+fn proxy_due(lengths: Lengths) -> usize
+    ensures { λ r. ⌜ r ≡ proxyDue lengths ⌝ }
+{
+    unless_gone(lengths.optimistic, least(lengths.proxy, 262))
+}
+
+fn due_after_method(lengths: Lengths, method: AuthMethod) -> Due
+    ensures { λ r. ⌜ r ≡ dueAfterMethod lengths method ⌝ }
 {
     match method {
         AuthMethod::NoAuth => Due {
             stage: Stage::Awaiting(Reply::ProxyRes),
-            sent: send_proxy(kept, out, at),
+            len: proxy_due(lengths),
         },
         AuthMethod::UserPass => Due {
             stage: Stage::Awaiting(Reply::AuthenticationRes),
-            sent: send_authentication(kept, out, at),
+            len: authentication_due(lengths),
         },
         AuthMethod::NoneAcceptable => Due {
             stage: Stage::Failed(SocksError::MethodMismatch),
-            sent: at,
+            len: 0,
         },
     }
 }
 
 // What a good reply makes due.
-fn send_after(kept: Kept, reply: Reply, out: &mut [u8], at: usize) -> Due
-    requires { ⌜ at + stillDue (Stage.Awaiting reply) ≤ length (now out) ⌝ }
-    ensures { λ r. ⌜ Sends (dueAfter (requestsOf kept) reply) (now (out .entry)) at (r .stage) (r .sent) (now (out .exit)) ⌝ }
+fn due_after(lengths: Lengths, reply: Reply) -> Due
+    ensures { λ r. ⌜ r ≡ dueAfter lengths reply ⌝ }
 {
     match reply {
-        Reply::NegotiationRes(method) => send_after_method(kept, method, out, at),
+        Reply::NegotiationRes(method) => due_after_method(lengths, method),
         Reply::AuthenticationRes => Due {
             stage: Stage::Awaiting(Reply::ProxyRes),
-            sent: send_proxy(kept, out, at),
+            len: proxy_due(lengths),
         },
         Reply::ProxyRes => Due {
             stage: Stage::Open,
-            sent: at,
+            len: 0,
         },
         Reply::Response => Due {
             stage: Stage::Open,
-            sent: at,
+            len: 0,
         },
     }
 }
 
 // What a verdict makes due.
-pub fn send_judged(kept: Kept, reply: Reply, verdict: Verdict, out: &mut [u8], at: usize) -> Due
-    requires { ⌜ at + stillDue (Stage.Awaiting reply) ≤ length (now out) ⌝ }
-    ensures { λ r. ⌜ Sends (dueJudged (requestsOf kept) reply verdict) (now (out .entry)) at (r .stage) (r .sent) (now (out .exit)) ⌝ }
+pub fn due_judged(lengths: Lengths, reply: Reply, verdict: Verdict) -> Due
+    ensures { λ r. ⌜ r ≡ dueJudged lengths reply verdict ⌝ }
 {
     match verdict {
-        Verdict::Good => send_after(kept, reply, out, at),
+        Verdict::Good => due_after(lengths, reply),
         Verdict::Bad(error) => Due {
             stage: Stage::Failed(error),
-            sent: at,
+            len: 0,
         },
     }
+}
+
+fn is_user_pass(method: AuthMethod) -> bool
+    ensures { λ r. ⌜ r ≡ isUserPass method ⌝ }
+{
+    match method {
+        AuthMethod::NoAuth => false,
+        AuthMethod::UserPass => true,
+        AuthMethod::NoneAcceptable => false,
+    }
+}
+
+// Whether what a reply makes due begins with the AuthenticationReq.
+fn authentication_first(reply: Reply) -> bool
+    ensures { λ r. ⌜ r ≡ authenticationFirst reply ⌝ }
+{
+    match reply {
+        Reply::NegotiationRes(method) => is_user_pass(method),
+        Reply::AuthenticationRes => false,
+        Reply::ProxyRes => false,
+        Reply::Response => false,
+    }
+}
+
+// Where among the bytes begins what becomes due from a reply on.
+pub fn due_from(lengths: Lengths, reply: Reply) -> usize
+    ensures { λ r. ⌜ r ≡ dueFrom lengths reply ⌝ }
+{
+    let at = least(lengths.first, 3);
+    if authentication_first(reply) {
+        return at;
+    }
+    at + authentication_due(lengths)
 }

@@ -1,111 +1,44 @@
--- A delivery's answer from what its loop did.
-use Prim.Native.Nat.{ℕ, _+_, _-_, _≤_, _<_, zero-le}
-use native.Mathlib.Nat.{zero-add, le-refl}
+-- What the parts of a delivery and of an end come to.
+use Prim.Native.Nat.{ℕ, _+_, _-_, _≤_, _<_, min, zero-le}
+use native.Mathlib.Nat.{zero-add}
 use native.Mathlib.Omega.{arith}
 use mathlib.Core.Path.{_≡_, refl, ap, sym, _∙_}
 use mathlib.Core.Bool.{true, false}
 use mathlib.Core.List.{List, [], _∷_, _++_}
-use lib.ListN.{length, drop, length-append, length-drop}
+use lib.ListN.{length, take, drop, length-take, length-drop, length-append}
 use borrow.Author.Tests.{le-leb, lt-leb}
 use Rattle.protocol.specs.declared.Reply.{Reply}
-use Rattle.protocol.specs.declared.Answer as code
-use Rattle.protocol.specs.declared.Answer.the-variants.{Accepted, Refused}
-use Rattle.protocol.specs.declared.Outcome.the-variants as Out
+use Rattle.protocol.specs.declared.Reply.the-variants.{NegotiationRes, AuthenticationRes, ProxyRes, Response}
+use Rattle.protocol.specs.declared.AuthMethod.the-variants.{NoAuth, UserPass, NoneAcceptable}
 use Rattle.protocol.specs.declared.SocksError.{SocksError}
 use Rattle.protocol.specs.declared.SocksError.the-variants.{ShortOutput, UnexpectedEof, Settled}
-use Rattle.protocol.specs.Client.{talkAt, client, room}
-use Rattle.wire.specs.Written.{overwrite, Wrote}
-use Rattle.wire.proofs.Laws.{wrote-length}
+use Rattle.protocol.specs.declared.Answer.the-variants.{Accepted, Refused}
+use Rattle.protocol.specs.declared.Outcome.the-variants as Out
+use Rattle.protocol.specs.Client.{room, talkAt, client}
+use Rattle.wire.specs.Written.{overwrite}
+use Rattle.wire.proofs.Parts.{take-min}
+use Rattle.sending.specs.declared.Lengths.{Lengths}
 use Rattle.sending.specs.declared.Stage.{Stage}
 use Rattle.sending.specs.declared.Stage.the-variants.{Awaiting, Open, Failed}
-use Rattle.sending.specs.declared.Kept.{Kept}
+use Rattle.sending.specs.Stages.{SideFed, SideSession, viewAt, stageOf, rank}
+use Rattle.sending.specs.Parts.{part, requestsOf}
+use Rattle.sending.specs.Due.{stillDue}
+use Rattle.sending.proofs.Stages.{awaits}
+use Rattle.turns.specs.declared.Taken.{Taken}
+use Rattle.turns.specs.Turns.{keptIn, Takes}
 use Rattle.session.specs.declared.Session.{Session}
 use Rattle.session.specs.declared.Delivered.{Delivered}
-use Rattle.sending.specs.Stages.{SideSession, requestsOf, viewAt}
-use Rattle.session.specs.Session.{sideOf, heldBytes, view, packed, outcome, roomAt}
-use Rattle.sending.specs.Stages.{SideFed}
-use Rattle.session.specs.Calls.{refusal, delivered, Delivers, endedBy, moves, takes, deliver, end}
-use Rattle.sending.specs.Stages.{rank}
-use Rattle.turns.specs.Turns.{heldCount, Worked}
-use Rattle.turns.proofs.Steps.{held-count}
-use Rattle.sending.proofs.Stages.{awaits}
+use Rattle.session.specs.declared.Ended.{Ended}
+use Rattle.session.specs.declared.Received.{Received}
+use Rattle.session.specs.Session.{sideOf, heldBytes, view, outcome}
+use Rattle.session.specs.Calls.{Call, Delivers, delivered, moves, takes, deliver, end, endedBy}
+use Rattle.session.specs.Received.{unchanged, sessionOf, sending, Receives}
 use Rattle.talk.specs.Talk.{feed, onward, heldBy, isOver}
 
-same-delivered : {a : code.Answer} {u u′ n n′ : ℕ} {s s′ : Session} → u ≡ u′ → n ≡ n′ → s ≡ s′
-    → _≡_ {A = Delivered} (record { answer = a; used = u; sent = n; session = s }) (record { answer = a; used = u′; sent = n′; session = s′ })
-same-delivered {a} p q r = λ i. record { answer = a; used = p i; sent = q i; session = r i }
+pub take-least : (n : ℕ) (l : List ℕ) → length l ≡ 261 → take (min n 261) l ≡ take n l
+take-least n l h = rw (← h) (take-min n l)
 
-pub onward-at : (k : Kept) {stage : Stage} {e : Reply} (h piece : List ℕ) → stage ≡ Awaiting e → onward (client (requestsOf k)) (viewAt stage h) piece ≡ feed (client (requestsOf k)) (talkAt (requestsOf k) e) (h ++ piece)
-unfolding onward
-onward-at k h piece q = rw q
-
-held-at : {stage : Stage} {e : Reply} (h : List ℕ) → stage ≡ Awaiting e → heldBy (viewAt stage h) ≡ h
-held-at h q = rw q
-
-pub at-start : {out out′ bs : List ℕ} {n : ℕ} → Wrote out 0 bs n out′ → out′ ≡ bs ++ drop (length bs) out
-unfolding overwrite
-at-start {out} {out′} {bs} w = w .bytes ∙ ap (λ (n : ℕ). bs ++ drop n out) (zero-add (length bs))
-
-pub sent-inside : {out out′ bs : List ℕ} {n : ℕ} → Wrote out 0 bs n out′ → n ≤ length out′
-sent-inside w = let i = w .inside in omega (arith, i, w .place, wrote-length w)
-
-few-held : (s : Stage) (n : ℕ) → heldCount s n ≤ n
-few-held (Awaiting e) n = le-refl n
-few-held Open n = zero-le
-few-held (Failed x) n = zero-le
-
-module _ (s : Session) (e : Reply) (h piece out : List ℕ) (stage : Stage) (place : ℕ) {next : ℕ} {out′ : List ℕ} {u : ℕ} {s′ : Session} where
-  pub moved : s .stage ≡ Awaiting e → h ≡ heldBytes s → Worked (feed (client (requestsOf (s .kept))) (talkAt (requestsOf (s .kept)) e) (h ++ piece)) (h ++ piece) out stage place next out′
-      → u ≡ place + heldCount stage (length h + length piece - place) - length h → s′ ≡ packed s (viewAt stage (drop place (h ++ piece)))
-      → Delivers (moves s (onward (sideOf s) (view s) piece) out) piece (record { answer = Accepted; used = u; sent = next; session = s′ }) out′
-  moved q hh w uu ss =
-      let f : SideFed = onward (sideOf s) (view s) piece in
-      let x : f ≡ feed (client (requestsOf (s .kept))) (talkAt (requestsOf (s .kept)) e) (h ++ piece) =
-      onward-at (s .kept) (heldBytes s) piece q ∙ ap (λ (b : List ℕ). feed (client (requestsOf (s .kept))) (talkAt (requestsOf (s .kept)) e) (b ++ piece)) (sym hh) in
-      let session : f .session ≡ viewAt stage (drop place (h ++ piece)) = ap (λ (g : SideFed). g .session) x ∙ w .session in
-      let placed : f .place ≡ place = ap (λ (g : SideFed). g .place) x ∙ w .placed in
-      let sent = ap (λ (g : SideFed). g .sent) x in
-      let l : length (heldBy (f .session)) ≡ heldCount stage (length h + length piece - place) =
-      ap (λ (m : SideSession). length (heldBy m)) session ∙ held-count stage (drop place (h ++ piece)) ∙ ap (heldCount stage) (length-drop place (h ++ piece) ∙ ap (λ (n : ℕ). n - place) (length-append h piece)) in
-      let k : length (heldBy (view s)) ≡ length h = ap length (held-at (heldBytes s) q ∙ sym hh) in
-      record {
-        returned = same-delivered (uu ∙ sym (ap (λ (n : ℕ). n + length (heldBy (f .session)) - length (heldBy (view s))) placed ∙ rw (l, k))) (w .wrote .place ∙ zero-add _ ∙ sym (ap length sent)) (ss ∙ ap (packed s) (sym session));
-        output = at-start (w .wrote) ∙ ap (λ (b : List ℕ). b ++ drop (length b) out) (sym sent);
-        inside = sent-inside (w .wrote);
-        within = let i = w .inside in omega (arith, uu, i, length-append h piece, few-held stage (length h + length piece - place));
-      }
-
-pub takes-more : (s : Session) (piece out : List ℕ) {r : Delivered} {out′ : List ℕ} → (length piece ≡ 0 → ⊥) → Delivers (moves s (onward (sideOf s) (view s) piece) out) piece r out′ → Delivers (takes s piece out) piece r out′
-takes-more s [] out h d = absurd (h refl)
-takes-more s (b ∷ bs) out h d = d
-
-pub takes-none : (s : Session) (piece out : List ℕ) → length piece ≡ 0 → Delivers (takes s piece out) piece (record { answer = Accepted; used = 0; sent = 0; session = s }) out
-takes-none s [] out h = record { returned = refl; output = refl; inside = zero-le; within = zero-le }
-takes-none s (b ∷ bs) out h = absurd (omega arith)
-
--- ---- the session
-
-same-session : {g g′ : Stage} {n n′ : ℕ} {h h′ : List ℕ} {k : Kept} → g ≡ g′ → n ≡ n′ → h ≡ h′
-    → _≡_ {A = Session} (record { stage = g; held = n; hold = h; kept = k }) (record { stage = g′; held = n′; hold = h′; kept = k })
-same-session {k = k} p q r = λ i. record { stage = p i; held = q i; hold = r i; kept = k }
-
-pub packed-settled : (s : Session) (stage : Stage) (rest : List ℕ) → rank stage ≡ 0 → record { stage = stage; held = 0; hold = s .hold; kept = s .kept } ≡ packed s (viewAt stage rest)
-packed-settled s (Awaiting e) rest z = absurd (awaits e z)
-packed-settled s Open rest z = refl
-packed-settled s (Failed x) rest z = refl
-
-pub packed-failed : (s : Session) {stage : Stage} {x : SocksError} (rest : List ℕ) → stage ≡ Failed x → record { stage = Failed x; held = 0; hold = s .hold; kept = s .kept } ≡ packed s (viewAt stage rest)
-packed-failed s {stage} {x} rest e = rw e (packed-settled s (Failed x) rest refl)
-
-pub packed-waits : (s : Session) {stage : Stage} {e : Reply} (h p : List ℕ) (place : ℕ) {next : List ℕ} → stage ≡ Awaiting e → next ≡ overwrite (s .hold) 0 (drop place (h ++ p))
-    → record { stage = Awaiting e; held = length h + length p - place; hold = next; kept = s .kept } ≡ packed s (viewAt stage (drop place (h ++ p)))
-unfolding overwrite
-packed-waits s {stage} {e} h p place {next} q n =
-    rw q
-    (same-session refl (sym (length-drop place (h ++ p) ∙ ap (λ (k : ℕ). k - place) (length-append h p)))
-    (n ∙ ap (λ (k : ℕ). drop place (h ++ p) ++ drop k (s .hold)) (zero-add (length (drop place (h ++ p))))))
-
--- ---- the ways through a delivery and an end
+-- ---- which way a delivery goes
 
 is-over : (stage : Stage) (h : List ℕ) → rank stage ≡ 0 → isOver (viewAt stage h) ≡ true
 is-over (Awaiting e) h z = absurd (awaits e z)
@@ -115,27 +48,111 @@ is-over (Failed x) h z = refl
 waits-on : {stage : Stage} {e : Reply} (h : List ℕ) → stage ≡ Awaiting e → isOver (viewAt stage h) ≡ false
 waits-on h q = rw q
 
-module _ (s : Session) (piece out : List ℕ) {r : Delivered} where
-  pub deliver-settled : rank (s .stage) ≡ 0 → r ≡ delivered (refusal Settled s []) → Delivers (deliver s piece out) piece r out
-  unfolding deliver
-  deliver-settled z e = rw (is-over (s .stage) (heldBytes s) z) (record { returned = e; output = refl; inside = rw e zero-le; within = rw e zero-le })
+takes-none : (s : Session) (piece out : List ℕ) → length piece ≡ 0 → takes s piece out ≡ record { answer = Accepted; session = s; used = 0; sent = 0; output = out }
+takes-none s [] out z = refl
+takes-none s (b ∷ bs) out z = absurd (omega arith)
 
-  pub deliver-short : {w : Reply} → s .stage ≡ Awaiting w → length out < room w → r ≡ delivered (refusal ShortOutput s []) → Delivers (deliver s piece out) piece r out
-  unfolding deliver
-  deliver-short {w} q h e = rw (waits-on (heldBytes s) q, ap roomAt q, lt-leb (room w) (length out) h) (record { returned = e; output = refl; inside = rw e zero-le; within = rw e zero-le })
+takes-more : (s : Session) (piece out : List ℕ) → (length piece ≡ 0 → ⊥) → takes s piece out ≡ moves s (onward (sideOf s) (view s) piece) out
+takes-more s [] out h = absurd (h refl)
+takes-more s (b ∷ bs) out h = refl
 
-  pub deliver-takes : {w : Reply} {out′ : List ℕ} → s .stage ≡ Awaiting w → room w ≤ length out → Delivers (takes s piece out) piece r out′ → Delivers (deliver s piece out) piece r out′
+stage-back : (stage : Stage) (rest : List ℕ) → stageOf (viewAt stage rest) ≡ stage
+stage-back (Awaiting e) rest = refl
+stage-back Open rest = refl
+stage-back (Failed x) rest = refl
+
+-- what may become due fits the output lent
+still-room : (e : Reply) → stillDue (Awaiting e) ≤ room e
+still-room (NegotiationRes NoAuth) = omega arith
+still-room (NegotiationRes UserPass) = omega arith
+still-room (NegotiationRes NoneAcceptable) = omega arith
+still-room AuthenticationRes = omega arith
+still-room ProxyRes = omega arith
+still-room Response = omega arith
+
+module _ (held : ℕ) (l : Lengths) (hold piece : List ℕ) (lent : ℕ) where
+  pub receives-settled : (stage : Stage) → rank stage ≡ 0 → {r : Received} → r ≡ unchanged (Refused Settled) stage held → Receives stage held l hold piece lent r hold
   unfolding deliver
-  deliver-takes {w} q h d = rw (waits-on (heldBytes s) q, ap roomAt q, le-leb (room w) (length out) h) d
+  receives-settled stage z e = rw e (record { calls = λ b out h. rw (is-over stage (take held hold) z); within = zero-le; fits = zero-le; inside = zero-le })
+
+  module _ (e : Reply) {r : Received} where
+    pub receives-short : lent < room e → r ≡ unchanged (Refused ShortOutput) (Awaiting e) held → Receives (Awaiting e) held l hold piece lent r hold
+    unfolding deliver
+    receives-short h q = rw q (record { calls = λ b out k. rw (k, lt-leb (room e) lent h); within = zero-le; fits = zero-le; inside = zero-le })
+
+    pub receives-none : room e ≤ lent → length piece ≡ 0 → r ≡ unchanged Accepted (Awaiting e) held → Receives (Awaiting e) held l hold piece lent r hold
+    unfolding deliver
+    receives-none h z q = rw q (record { calls = λ b out k. rw (k, le-leb (room e) lent h) (takes-none (sessionOf (Awaiting e) held hold l b) piece out z); within = zero-le; fits = zero-le; inside = zero-le })
+
+  -- a piece taken behind held bytes
+  module _ (e : Reply) {h : List ℕ} (q : h ≡ take held hold) {t : Taken} {hold′ : List ℕ} (w : Takes l e h piece hold t hold′) where
+    moves-as : (b out : List ℕ) → moves (sessionOf (Awaiting e) held hold l b) (feed (client (keptIn l b)) (talkAt (keptIn l b) e) (take held hold ++ piece)) out ≡ sending Accepted t hold′ l b out
+    moves-as b out =
+        let k = w .keeps in
+        let fed = ap (λ (x : List ℕ). feed (client (keptIn l b)) (talkAt (keptIn l b) e) (x ++ piece)) (sym q) ∙ w .whole b in
+        let rest = drop (w .place) (h ++ piece) in
+        let used : w .place + length (heldBy (viewAt (w .stage) rest)) - length (take held hold) ≡ t .used = rw (← q) (sym (k .uses)) in
+        ap (λ (f : SideFed). moves (sessionOf (Awaiting e) held hold l b) f out) fed
+        ∙ (λ i. record {
+          answer = Accepted;
+          session = record { stage = (stage-back (w .stage) rest ∙ sym (k .staged)) i; held = sym (k .counts) i; hold = sym (k .holds) i; requests = record { lengths = l; bytes = b } };
+          used = used i;
+          sent = length (part b (t .from) (t .sent));
+          output = part b (t .from) (t .sent) ++ drop (length (part b (t .from) (t .sent))) out;
+        })
+
+    pub receives-taken : room e ≤ lent → (length piece ≡ 0 → ⊥) → Receives (Awaiting e) held l hold piece lent (record { answer = Accepted; taken = t }) hold′
+    unfolding deliver onward
+    receives-taken h z =
+        let s = w .few in
+        record {
+          calls = λ b out g. rw (g, le-leb (room e) lent h) (takes-more (sessionOf (Awaiting e) held hold l b) piece out z ∙ moves-as b out);
+          within = w .keeps .within;
+          fits = omega (arith, s, still-room e);
+          inside = w .inside;
+        }
+
+-- ---- a delivery: what is due is sent, and the session built
+
+pub nothing-sent : (b : List ℕ) (from : ℕ) (out : List ℕ) {n : ℕ} → n ≡ 0 → out ≡ overwrite out 0 (part b from n)
+unfolding overwrite
+nothing-sent b from out q = rw q
+
+pub sent-part : (b : List ℕ) (from n : ℕ) (out : List ℕ) {out′ : List ℕ} → out′ ≡ overwrite out 0 (take (from + n - from) (drop from b)) → out′ ≡ overwrite out 0 (part b from n)
+sent-part b from n out w = let z : from + n - from ≡ n = omega arith in w ∙ ap (λ (k : ℕ). overwrite out 0 (take k (drop from b))) z
+
+part-long : (b : List ℕ) (from n : ℕ) → length b ≡ 1024 → from + n ≤ 778 → length (part b from n) ≡ n
+part-long b from n l h = length-take n (drop from b) ∙ rw (length-drop from b) (omega arith)
+
+module _ (s : Session) (piece out : List ℕ) {r : Received} {hold′ out′ : List ℕ} where
+  pub delivers : Receives (s .stage) (s .held) (s .requests .lengths) (s .hold) piece (length out) r hold′ → length (s .requests .bytes) ≡ 1024
+      → out′ ≡ overwrite out 0 (part (s .requests .bytes) (r .taken .from) (r .taken .sent))
+      → Delivers (deliver s piece out) piece
+      (record { answer = r .answer; used = r .taken .used; sent = r .taken .sent; session = sessionOf (r .taken .stage) (r .taken .held) hold′ (s .requests .lengths) (s .requests .bytes) }) out′
+  unfolding overwrite
+  delivers v long w =
+      let t = r .taken in
+      let p = part (s .requests .bytes) (t .from) (t .sent) in
+      let n : length p ≡ t .sent = part-long (s .requests .bytes) (t .from) (t .sent) long (v .inside) in
+      let c = v .calls (s .requests .bytes) out refl in
+      let o : out′ ≡ p ++ drop (length p) out = w ∙ ap (λ (k : ℕ). p ++ drop k out) (zero-add (length p)) in
+      record {
+        returned = (λ i. record { answer = r .answer; used = t .used; sent = sym n i; session = sessionOf (t .stage) (t .held) hold′ (s .requests .lengths) (s .requests .bytes) }) ∙ ap delivered (sym c);
+        output = o ∙ ap (λ (a : Call). a .output) (sym c);
+        inside = rw o (omega (arith, length-append p (drop (length p) out)));
+        within = v .within;
+      }
+
+-- ---- an end, and the outcome
 
 module _ (s : Session) where
   pub end-settled : rank (s .stage) ≡ 0 → record { answer = Refused Settled; session = s } ≡ endedBy (end s)
   unfolding end
   end-settled z = rw (is-over (s .stage) (heldBytes s) z)
 
-  pub end-waits : {w : Reply} → s .stage ≡ Awaiting w → record { answer = Accepted; session = record { stage = Failed UnexpectedEof; held = 0; hold = s .hold; kept = s .kept } } ≡ endedBy (end s)
+  pub end-waits : {w : Reply} → s .stage ≡ Awaiting w → record { answer = Accepted; session = record { stage = Failed UnexpectedEof; held = 0; hold = s .hold; requests = s .requests } } ≡ endedBy (end s)
   unfolding end
   end-waits q = rw (waits-on (heldBytes s) q)
 
-pub outcome-failed : (s : Session) {x : SocksError} → s .stage ≡ Failed x → Out.Failed x ≡ outcome s
-outcome-failed s q = rw q
+  pub outcome-failed : {x : SocksError} → s .stage ≡ Failed x → Out.Failed x ≡ outcome s
+  outcome-failed q = rw q

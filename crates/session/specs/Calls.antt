@@ -5,18 +5,17 @@ use mathlib.Core.Bool.{Bool, false, cond}
 use mathlib.Core.List.{List, [], _∷_, _++_}
 use lib.ListN.{length, drop, replicate}
 use lib.Dec.{leb}
-use Rattle.protocol.specs.declared.AddressKind.the-variants.{Ipv4, Ipv6, Domain}
-use Rattle.protocol.specs.declared.Address.{Address}
+use Rattle.protocol.specs.declared.AuthMethod.the-variants.{NoAuth, UserPass}
 use Rattle.protocol.specs.declared.SocksError.{SocksError}
 use Rattle.protocol.specs.declared.SocksError.the-variants.{ShortOutput, UnexpectedEof, Settled}
 use Rattle.protocol.specs.declared.Answer as code
 use Rattle.protocol.specs.declared.Answer.the-variants.{Accepted, Refused}
 use Rattle.protocol.specs.Numbers.{answerNumber, outcomeNumber}
-use Rattle.protocol.specs.AddressReading.{Destination, ipv4, ipv6, domain}
+use Rattle.protocol.specs.Requests.{negotiationReq, authenticationReq, proxyReq, request}
 use Rattle.protocol.specs.Opening.{V5, V4, check5, check4, Opening, v5, v4, noAuth, userPass, opening5, opening4}
 use Rattle.protocol.specs.Client.{side, begun}
 use Rattle.sending.specs.declared.Stage.the-variants.{Failed}
-use Rattle.sending.specs.declared.Kept.{Kept}
+use Rattle.sending.specs.declared.Requests.{Requests}
 use Rattle.session.specs.declared.Session.{Session}
 use Rattle.session.specs.declared.Opened.{Opened}
 use Rattle.session.specs.declared.Delivered.{Delivered}
@@ -60,27 +59,26 @@ endedBy c = record { answer = c .answer; session = c .session }
 abbrev pub padded : ℕ → List ℕ → List ℕ
 padded n bs = bs ++ replicate (n - length bs) 0
 
-abbrev pub addressOf : Destination → ℕ → Address
-addressOf (ipv4 bs) port = record { kind = Ipv4; len = length bs; bytes = padded 255 bs; port = port }
-addressOf (ipv6 bs) port = record { kind = Ipv6; len = length bs; bytes = padded 255 bs; port = port }
-addressOf (domain s) port = record { kind = Domain; len = length s; bytes = padded 255 s; port = port }
+-- requests one behind the other: the first, an AuthenticationReq and a ProxyReq
+abbrev pub keptWith : Bool → List ℕ → List ℕ → List ℕ → Requests
+keptWith o q a p =
+    record {
+      lengths = record { optimistic = o; first = length q; authentication = length a; proxy = length p };
+      bytes = padded 1024 (q ++ (a ++ p));
+    }
 
-abbrev pub keptWith : Bool → Address → List ℕ → List ℕ → Kept
-keptWith o a u p =
-    record { optimistic = o; address = a; user = padded 255 u; «user_len» = length u; password = padded 255 p; «password_len» = length p }
+abbrev pub nothingKept : Requests
+nothingKept = keptWith false [] [] []
 
-abbrev pub nothingKept : Kept
-nothingKept = keptWith false (addressOf (ipv4 (replicate 4 0)) 0) [] []
-
--- what a session keeps of an opening; over v4 nothing is due later
-abbrev pub keptBy : Opening → Kept
-keptBy (v5 noAuth d port o) = keptWith o (addressOf d port) [] []
-keptBy (v5 (userPass u p) d port o) = keptWith o (addressOf d port) u p
-keptBy (v4 d port) = nothingKept
+-- what a session keeps of an opening
+abbrev pub keptBy : Opening → Requests
+keptBy (v5 noAuth d port o) = keptWith o (negotiationReq NoAuth) [] (proxyReq d port)
+keptBy (v5 (userPass u p) d port o) = keptWith o (negotiationReq UserPass) (authenticationReq u p) (proxyReq d port)
+keptBy (v4 d port) = keptWith false (request d port) [] []
 
 -- the empty session, failed with an error
-abbrev pub emptySession : Kept → SocksError → Session
-emptySession k e = record { stage = Failed e; held = 0; hold = replicate 261 0; kept = k }
+abbrev pub emptySession : Requests → SocksError → Session
+emptySession q e = record { stage = Failed e; held = 0; hold = replicate 261 0; requests = q }
 
 -- an accepted opening: its talk, fed with no byte; what is sent stands at the output's start
 abbrev pub begins : Opening → SideFed → List ℕ → Call

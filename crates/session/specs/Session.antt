@@ -8,10 +8,11 @@ use Rattle.sending.specs.declared.Stage.{Stage}
 use Rattle.sending.specs.declared.Stage.the-variants.{Awaiting, Open, Failed}
 use Rattle.session.specs.declared.Session.{Session}
 use Rattle.talk.specs.Talk as talk
-use Rattle.sending.specs.Stages.{SideSession, requestsOf, viewAt, stageOf}
+use Rattle.sending.specs.Stages.{SideSession, viewAt, stageOf}
+use Rattle.sending.specs.Parts.{requestsOf}
 
 abbrev pub sideOf : Session → talk.Side
-sideOf s = client.client (requestsOf (s .kept))
+sideOf s = client.client (requestsOf (s .requests))
 
 -- the held bytes: the first of the hold, all of it where the count is larger
 abbrev pub heldBytes : Session → List ℕ
@@ -27,7 +28,7 @@ packed s m =
       stage = stageOf m;
       held = length (talk.heldBy m);
       hold = talk.heldBy m ++ drop (length (talk.heldBy m)) (s .hold);
-      kept = s .kept;
+      requests = s .requests;
     }
 
 abbrev pub outcome : Session → Outcome

@@ -1,29 +1,32 @@
 // The client's side of a SOCKS handshake: a session that is opened, fed with pieces, and ended.
 
 ghost use mathlib.Core.Path.{_≡_};
-ghost use mathlib.Core.List.{[], _++_};
 ghost use Prim.Native.Nat.{_+_, _≤_};
-ghost use lib.ListN.{length, drop};
-ghost use Rattle.session.specs.Calls.{Delivers, delivered, refusal, moves, takes, deliver, endedBy, end};
-ghost use Rattle.sending.specs.declared.Stage.the-variants as Stage;
-ghost use Rattle.session.specs.Session.{sideOf, heldBytes, view, packed, outcome};
+ghost use lib.ListN.{length};
 ghost use Rattle.protocol.specs.Client.{room};
-ghost use Rattle.sending.specs.Stages.{viewAt};
-ghost use Rattle.talk.specs.Talk.{onward, heldBy};
+ghost use Rattle.wire.specs.Written.{overwrite};
+ghost use Rattle.sending.specs.Parts.{part};
+ghost use Rattle.sending.specs.declared.Stage.the-variants as Stage;
+ghost use Rattle.session.specs.Session.{outcome};
+ghost use Rattle.session.specs.Calls.{Delivers, deliver, endedBy, end};
+ghost use Rattle.session.specs.Received.{unchanged, Receives};
 use protocol::Answer;
 use protocol::Outcome;
 use protocol::Reply;
 use protocol::SocksError;
-use sending::Kept;
+use sending::Lengths;
+use sending::Requests;
 use sending::Stage;
-use turns::Turn;
+use turns::Taken;
+use wire::copy;
+use wire::least;
 
-// The first held bytes of the hold are the undecided rest of a reply.
+// The first held bytes of the hold are the undecided rest of a reply. The requests never change.
 pub struct Session {
     pub stage: Stage,
     pub held: usize,
     pub hold: [u8; 261],
-    pub kept: Kept,
+    pub requests: Requests,
 }
 
 pub struct Opened {
@@ -56,107 +59,122 @@ fn room_of(reply: Reply) -> usize
     }
 }
 
+// What a delivery answers, and what the piece came to.
+struct Received {
+    answer: Answer,
+    taken: Taken,
+}
+
+// Nothing was taken.
+fn unchanged(answer: Answer, stage: Stage, held: usize) -> Received
+    ensures { λ r. ⌜ r ≡ unchanged answer stage held ⌝ }
+{
+    Received {
+        answer: answer,
+        taken: Taken {
+            stage: stage,
+            held: held,
+            used: 0,
+            from: 0,
+            sent: 0,
+        },
+    }
+}
+
+// A piece for a session that waits for a reply, with so much output lent. An empty one changes nothing.
+fn receive_awaiting(
+    reply: Reply,
+    held: usize,
+    lengths: Lengths,
+    hold: &mut [u8],
+    piece: &[u8],
+    room: usize,
+) -> Received
+    requires { ⌜ length (now hold) ≡ 261 ⌝ }
+    ensures { λ r. ⌜ Receives (Stage.Awaiting reply) held lengths (now (hold .entry)) (now (piece .entry)) room r (now (hold .exit)) ⌝ }
+{
+    let stage = Stage::Awaiting(reply);
+    if room < room_of(reply) {
+        return unchanged(Answer::Refused(SocksError::ShortOutput), stage, held);
+    }
+    if piece.len() == 0 {
+        return unchanged(Answer::Accepted, stage, held);
+    }
+    Received {
+        answer: Answer::Accepted,
+        taken: turns::take(lengths, reply, hold, least(held, 261), piece),
+    }
+}
+
+fn receive(
+    stage: Stage,
+    held: usize,
+    lengths: Lengths,
+    hold: &mut [u8],
+    piece: &[u8],
+    room: usize,
+) -> Received
+    requires { ⌜ length (now hold) ≡ 261 ⌝ }
+    ensures { λ r. ⌜ Receives stage held lengths (now (hold .entry)) (now (piece .entry)) room r (now (hold .exit)) ⌝ }
+{
+    match stage {
+        Stage::Awaiting(reply) => receive_awaiting(reply, held, lengths, hold, piece, room),
+        Stage::Open => unchanged(Answer::Refused(SocksError::Settled), stage, held),
+        Stage::Failed(error) => unchanged(Answer::Refused(SocksError::Settled), stage, held),
+    }
+}
+
+// Copies a part of the requests to the output's start.
+fn send(requests: Requests, from: usize, n: usize, out: &mut [u8])
+    requires { ⌜ (from + n ≤ 778) × (n ≤ length (now out)) ⌝ }
+    ensures { λ r. ⌜ now (out .exit) ≡ overwrite (now (out .entry)) 0 (part (requests .bytes) from n) ⌝ }
+{
+    if n == 0 {
+        return;
+    }
+    let bytes = requests.bytes;
+    let end = from + n;
+    copy(out, 0, &bytes[from..end]);
+}
+
 impl Session {
     // Takes a piece, and puts what it makes due at the output's start. Refused if the session is settled, or the output has less than 778 bytes over v5, or 262 over v4.
     pub fn deliver(self, piece: &[u8], out: &mut [u8]) -> Delivered
         ensures { λ r. ⌜ Delivers (deliver self (now (piece .entry)) (now (out .entry))) (now (piece .entry)) r (now (out .exit)) ⌝ }
     {
         let stage = self.stage;
-        match stage {
-            Stage::Awaiting(reply) => self.deliver_awaiting(reply, piece, out),
-            Stage::Open => self.refused(SocksError::Settled),
-            Stage::Failed(error) => self.refused(SocksError::Settled),
-        }
-    }
-
-    fn refused(self, error: SocksError) -> Delivered
-        ensures { λ r. ⌜ r ≡ delivered (refusal error self []) ⌝ }
-    {
+        let requests = self.requests;
+        let lengths = requests.lengths;
+        let mut hold = self.hold;
+        let received = receive(stage, self.held, lengths, &mut hold, piece, out.len());
+        let answer = received.answer;
+        let taken = received.taken;
+        send(requests, taken.from, taken.sent, out);
+        let next = taken.stage;
         Delivered {
-            answer: Answer::Refused(error),
-            used: 0,
-            sent: 0,
-            session: self,
-        }
-    }
-
-    fn deliver_awaiting(self, reply: Reply, piece: &[u8], out: &mut [u8]) -> Delivered
-        requires { ⌜ self .stage ≡ Stage.Awaiting reply ⌝ }
-        ensures { λ r. ⌜ Delivers (deliver self (now (piece .entry)) (now (out .entry))) (now (piece .entry)) r (now (out .exit)) ⌝ }
-    {
-        if out.len() < room_of(reply) {
-            return self.refused(SocksError::ShortOutput);
-        }
-        self.take(reply, piece, out)
-    }
-
-    // A delivery to a session that waits for a reply. An empty piece changes nothing.
-    fn take(self, reply: Reply, piece: &[u8], out: &mut [u8]) -> Delivered
-        requires { ⌜ (self .stage ≡ Stage.Awaiting reply) × (room reply ≤ length (now out)) ⌝ }
-        ensures { λ r. ⌜ Delivers (takes self (now (piece .entry)) (now (out .entry))) (now (piece .entry)) r (now (out .exit)) ⌝ }
-    {
-        if piece.len() == 0 {
-            return Delivered {
-                answer: Answer::Accepted,
-                used: 0,
-                sent: 0,
-                session: self,
-            };
-        }
-        let hold = self.hold;
-        let n = wire::least(self.held, 261);
-        self.take_piece(reply, &hold[..n], piece, out)
-    }
-
-    // Takes a piece behind the held bytes, at a stage that waits for a reply.
-    fn take_piece(self, reply: Reply, held: &[u8], piece: &[u8], out: &mut [u8]) -> Delivered
-        requires { ⌜ (self .stage ≡ Stage.Awaiting reply) × (now held ≡ heldBytes self) × (length (now held) ≤ 261) × (room reply ≤ length (now out)) ⌝ }
-        ensures { λ r. ⌜ Delivers (moves self (onward (sideOf self) (view self) (now (piece .entry))) (now (out .entry))) (now (piece .entry)) r (now (out .exit)) ⌝ }
-    {
-        let kept = self.kept;
-        let turn = turns::work(kept, reply, held, piece, out);
-        Delivered {
-            answer: Answer::Accepted,
-            used: turns::used(turn, held.len(), piece.len()),
-            sent: turn.sent,
-            session: self.after(held, turn, piece),
-        }
-    }
-
-    // The session where a delivery stands: what is unread is held by one that waits.
-    fn after(self, held: &[u8], turn: Turn, piece: &[u8]) -> Session
-        requires { ⌜ (length (now held) ≤ 261) × (turn .place ≤ length (now held) + length (now piece)) × (length (heldBy (viewAt (turn .stage) (drop (turn .place) (now held ++ now piece)))) ≤ 261) ⌝ }
-        ensures { λ r. ⌜ r ≡ packed self (viewAt (turn .stage) (drop (turn .place) (now (held .entry) ++ now (piece .entry)))) ⌝ }
-    {
-        let stage = turn.stage;
-        let kept = self.kept;
-        let hold = self.hold;
-        match stage {
-            Stage::Awaiting(reply) => {
-                let next = reading::keep_rest(hold, held, piece, turn.place);
-                Session {
-                    stage: stage,
-                    held: held.len() + piece.len() - turn.place,
-                    hold: next,
-                    kept: kept,
-                }
-            }
-            Stage::Open => self.settled(stage),
-            Stage::Failed(error) => self.settled(stage),
+            answer: answer,
+            used: taken.used,
+            sent: taken.sent,
+            session: Session {
+                stage: next,
+                held: taken.held,
+                hold: hold,
+                requests: requests,
+            },
         }
     }
 
     // Settling changes the stage and the number of held bytes, and nothing else.
     fn settled(self, stage: Stage) -> Session
-        ensures { λ r. ⌜ r ≡ record { stage = stage; held = 0; hold = self .hold; kept = self .kept } ⌝ }
+        ensures { λ r. ⌜ r ≡ record { stage = stage; held = 0; hold = self .hold; requests = self .requests } ⌝ }
     {
         let hold = self.hold;
-        let kept = self.kept;
+        let requests = self.requests;
         Session {
             stage: stage,
             held: 0,
             hold: hold,
-            kept: kept,
+            requests: requests,
         }
     }
 

@@ -20,7 +20,8 @@ use Rattle.protocol.proofs.Sequences.{open-just, open-one}
 use Rattle.session.specs.declared.Session.{Session}
 use Rattle.sending.specs.declared.Stage.{Stage}
 use Rattle.sending.specs.declared.Stage.the-variants.{Awaiting, Open as OpenStage, Failed}
-use Rattle.sending.specs.Stages.{SideSession, requestsOf, viewAt}
+use Rattle.sending.specs.Stages.{SideSession, viewAt}
+use Rattle.sending.specs.Parts.{requestsOf}
 use Rattle.session.specs.Session.{heldBytes, view, packed, outcome, roomAt}
 use Rattle.session.specs.Calls.{refusal, takes, deliver, receiver}
 use Rattle.socks.specs.Demand3.{BytePieces, Alike, tunnelOf, joinedOf, Demand3}
@@ -40,13 +41,13 @@ view-packed s (talk.ended (talk.failed e)) = refl
 
 -- a session with these requests kept stands for a side's session, and asks for so much output as long as it waits
 pub record Stands (r : ℕ) (k : client.Kept) (s : Session) (m : SideSession) : Type 0 where
-  pub kept : requestsOf (s .kept) ≡ k
+  pub kept : requestsOf (s .requests) ≡ k
   pub seen : view s ≡ m
   pub waits : Waits r m
 
 module _ (r : ℕ) (s : Session) (w : Waits r (view s)) where
   abbrev k : client.Kept
-  k = requestsOf (s .kept)
+  k = requestsOf (s .requests)
 
   itself : Stands r k s (view s)
   itself = record { kept = refl; seen = refl; waits = w }

@@ -3,7 +3,8 @@ pub mod errors;
 pub mod v4;
 pub mod v5;
 
-pub use sending::Kept;
+pub use sending::Lengths;
+pub use sending::Requests;
 pub use sending::Stage;
 pub use session::Delivered;
 pub use session::Ended;

@@ -1,11 +1,14 @@
--- One turn of a delivery: what it leaves, and that the loop ends with all that the bytes do.
-use Prim.Native.Nat.{ℕ, _+_, _-_, _≤_, zero-le}
-use native.Mathlib.Nat.{add-zero, le-refl}
+-- The loop of a delivery: what a turn leaves to do comes to the whole, and what became due stands behind what did before.
+use Prim.Native.Nat.{ℕ, _+_, _-_, _≤_, _<_, zero-le}
+use native.Mathlib.Nat.{add-zero, zero-add, add-assoc}
 use native.Mathlib.Omega.{arith}
-use mathlib.Core.Path.{_≡_, refl, ap, sym, _∙_, subst}
+use mathlib.Core.Path.{_≡_, refl, ap, sym, _∙_}
 use mathlib.Core.Bool.{Bool, true, false}
-use mathlib.Core.List.{List, [], _++_, append-nil}
-use lib.ListN.{length, drop, length-drop}
+use mathlib.Core.List.{List, [], _++_, append-assoc, append-nil}
+use lib.ListN.{length, take, drop, length-drop}
+use lib.Seq.{drop-drop, take-add}
+use borrow.Author.Tests.{ltb-false}
+use Rattle.protocol.specs.declared.AuthMethod.the-variants.{NoAuth, UserPass, NoneAcceptable}
 use Rattle.protocol.specs.declared.Reply.{Reply}
 use Rattle.protocol.specs.declared.Reply.the-variants.{NegotiationRes, AuthenticationRes, ProxyRes, Response}
 use Rattle.protocol.specs.declared.SocksError.{SocksError}
@@ -15,209 +18,257 @@ use Rattle.protocol.specs.declared.Decision.{Decision}
 use Rattle.protocol.specs.declared.Decision.the-variants.{Undecided, Decided}
 use Rattle.protocol.specs.Bytes.{byte}
 use Rattle.protocol.specs.Replies.{decide}
-use Rattle.protocol.specs.Client.{Kept, room}
+use Rattle.protocol.specs.Client.{Kept}
 use Rattle.protocol.proofs.Replies.{decided-within, undecided-by}
-use Rattle.wire.specs.Written.{Wrote}
-use Rattle.wire.proofs.Laws.{wrote-length, then}
+use Rattle.sending.specs.declared.Lengths.{Lengths}
+use Rattle.sending.specs.declared.Due.{Due}
 use Rattle.sending.specs.declared.Stage.{Stage}
 use Rattle.sending.specs.declared.Stage.the-variants.{Awaiting, Open, Failed}
-use Rattle.sending.specs.Stages.{viewAt}
-use Rattle.sending.specs.Stages.{SideFed}
-use Rattle.sending.specs.Due.{dueAfter, dueJudged, stillDue, Sends}
-use Rattle.sending.specs.Stages.{Limited}
-use Rattle.turns.specs.Turns.{isGood, goesOn, onStage, Turns, Worked}
-use Rattle.sending.specs.Stages.{rank}
-use Rattle.turns.proofs.Steps.{Turning, turn-start, turn-good, turn-bad, turn-waits, turn-open, turn-failed, rank-falls, still-after}
-use Rattle.sending.proofs.Sending.{wrote-none}
+use Rattle.sending.specs.Stages.{SideFed, viewAt, rank}
+use Rattle.sending.specs.Parts.{part}
+use Rattle.sending.specs.Due.{dueAfter, dueJudged, dueFrom, stillDue}
+use Rattle.reading.specs.Fewest.{fewest}
+use Rattle.reading.proofs.Reading.{too-few}
+use Rattle.sending.proofs.Sending.{still-after}
 use Rattle.sending.proofs.Stages.{awaits}
-use Rattle.talk.specs.Talk.{heldBy}
+use Rattle.turns.specs.declared.Turn.{Turn}
+use Rattle.turns.specs.Turns.{keptIn, onStage, dueTurn, turnBytes, goesOn, Rests, Turns, Worked}
+use Rattle.turns.proofs.Steps.{stage-good, stage-bad, stage-rests, rank-falls}
+use Rattle.talk.specs.Talk.{failed, ended, unmoved, sending, moving}
+use Rattle.talk.proofs.Feed.{same-fed}
+
+pub still-small : (e : Reply) → stillDue (Awaiting e) ≤ 775
+still-small (NegotiationRes NoAuth) = omega arith
+still-small (NegotiationRes UserPass) = omega arith
+still-small (NegotiationRes NoneAcceptable) = omega arith
+still-small AuthenticationRes = omega arith
+still-small ProxyRes = omega arith
+still-small Response = omega arith
+
+rank-most : (e : Reply) → rank (Awaiting e) ≤ 3
+rank-most (NegotiationRes m) = omega arith
+rank-most AuthenticationRes = omega arith
+rank-most ProxyRes = omega arith
+rank-most Response = omega arith
+
+fewest-some : (e : Reply) → 0 < fewest e
+fewest-some (NegotiationRes m) = omega arith
+fewest-some AuthenticationRes = omega arith
+fewest-some ProxyRes = omega arith
+fewest-some Response = omega arith
 
 clash : true ≡ false → ⊥
 clash e = let z : _≡_ {A = ℕ} 0 1 = cc in omega arith
 
--- ---- the turn of a stage that waits
+-- by no byte nothing is decided
+none-left : (e : Reply) (rest : List ℕ) → length rest ≡ 0 → Rests (Awaiting e) rest
+none-left e rest z = (too-few e rest (omega (arith, fewest-some e)), omega arith)
 
-module _ (c : Kept) (e : Reply) (bytes : List ℕ) (place : ℕ) (out : List ℕ) (at : ℕ) where
-  pub turn-undecided : {d : Decision} → d ≡ decide e (drop place bytes) → byte (drop place bytes) 4 ≤ 255 → d ≡ Undecided → at ≤ length out
-      → Turns c (Awaiting e) bytes place out at (Awaiting e) place at false out
-  turn-undecided p y q h =
-      let u : decide e (drop place bytes) ≡ Undecided = sym p ∙ q in
-      record {
-        sends = rw u (record { staged = refl; wrote = wrote-none out at h });
-        placed = rw u (sym (add-zero place));
-        goes = rw u;
-        few = λ z. undecided-by e (drop place bytes) y u;
-      }
+-- ---- where the loop stands: what is left to do behind what was sent and read comes to the whole
 
-  few-judged : (v : Verdict) {stage : Stage} (rest : List ℕ) → stage ≡ dueJudged c e v .stage → isGood v ≡ false → length (heldBy (viewAt stage rest)) ≤ 261
-  few-judged Good rest s z = absurd (clash z)
-  few-judged (Bad x) rest s z = rw s zero-le
+pub record Left (whole : SideFed) (sent : List ℕ) (place : ℕ) (left : SideFed) : Type 0 where
+  pub session : whole .session ≡ left .session
+  pub sends : whole .sent ≡ sent ++ left .sent
+  pub places : whole .place ≡ place + left .place
 
-  pub turn-decided : {d : Decision} {n : ℕ} {v : Verdict} → d ≡ decide e (drop place bytes) → d ≡ Decided n v
-      → {stage : Stage} {next : ℕ} {out′ : List ℕ} → Sends (dueJudged c e v) out at stage next out′ → {again : Bool} → again ≡ isGood v
-      → Turns c (Awaiting e) bytes place out at stage (place + n) next again out′
-  turn-decided {d} {n} {v} p q s g =
-      let u : decide e (drop place bytes) ≡ Decided n v = sym p ∙ q in
-      record {
-        sends = rw u s;
-        placed = rw u;
-        goes = rw u g;
-        few = λ z. few-judged v (drop (place + n) bytes) (s .staged) (sym g ∙ z);
-      }
+left-on : {whole f g : SideFed} {sent : List ℕ} (more : List ℕ) {place : ℕ} (n : ℕ) → Left whole sent place f → f ≡ moving n (sending more g) → Left whole (sent ++ more) (place + n) g
+left-on {whole} {f} {g} {sent} more {place} n t e =
+    record {
+      session = t .session ∙ ap (λ (h : SideFed). h .session) e;
+      sends = t .sends ∙ ap (λ (h : SideFed). sent ++ h .sent) e ∙ sym (append-assoc sent more (g .sent));
+      places = t .places ∙ ap (λ (h : SideFed). place + h .place) e ∙ sym (add-assoc place n (g .place));
+    }
 
-  pub decided-inside : {d : Decision} {n : ℕ} {v : Verdict} → d ≡ decide e (drop place bytes) → d ≡ Decided n v → place ≤ length bytes → place + n ≤ length bytes
-  decided-inside {d} {n} {v} p q h = omega (arith, decided-within e (drop place bytes) n v (sym p ∙ q), length-drop place bytes)
+-- ---- what becomes due stands behind what did before
 
-pub turn-settled : (c : Kept) (stage : Stage) (bytes : List ℕ) (place : ℕ) (out : List ℕ) (at : ℕ) → rank stage ≡ 0 → at ≤ length out → Turns c stage bytes place out at stage place at false out
-turn-settled c (Awaiting e) bytes place out at z h = absurd (awaits e z)
-turn-settled c Open bytes place out at z h =
-    record { sends = record { staged = refl; wrote = wrote-none out at h }; placed = sym (add-zero place); goes = refl; few = λ f. zero-le }
-turn-settled c (Failed x) bytes place out at z h =
-    record { sends = record { staged = refl; wrote = wrote-none out at h }; placed = sym (add-zero place); goes = refl; few = λ f. zero-le }
+abbrev Next : Lengths → ℕ → Stage → Type 0
+Next l end (Awaiting (NegotiationRes m)) = dueFrom l (NegotiationRes m) ≡ end
+Next l end (Awaiting AuthenticationRes) = dueFrom l AuthenticationRes ≡ end
+Next l end (Awaiting ProxyRes) = Unit {0}
+Next l end (Awaiting Response) = Unit {0}
+Next l end Open = Unit {0}
+Next l end (Failed x) = Unit {0}
+
+next-first : (l : Lengths) (e : Reply) → Next l (dueFrom l e + 0) (Awaiting e)
+next-first l (NegotiationRes m) = sym (add-zero _)
+next-first l AuthenticationRes = sym (add-zero _)
+next-first l ProxyRes = tt
+next-first l Response = tt
+
+next-on : (l : Lengths) (from sent : ℕ) (e : Reply) → Next l (from + sent) (Awaiting e) → Next l (from + (sent + dueAfter l e .len)) (dueAfter l e .stage)
+next-on l from sent (NegotiationRes NoAuth) q = tt
+next-on l from sent (NegotiationRes UserPass) q = omega arith
+next-on l from sent (NegotiationRes NoneAcceptable) q = tt
+next-on l from sent AuthenticationRes q = tt
+next-on l from sent ProxyRes q = tt
+next-on l from sent Response q = tt
+
+-- two parts, the second behind the first
+part-on : (b : List ℕ) (from n m : ℕ) → part b from n ++ part b (from + n) m ≡ part b from (n + m)
+part-on b from n m = ap (λ (l : List ℕ). take n (drop from b) ++ take m l) (sym (drop-drop n from b)) ∙ sym (take-add n m (drop from b))
+
+part-none : (b : List ℕ) (from n at : ℕ) → part b from n ++ part b at 0 ≡ part b from (n + 0)
+part-none b from n at = append-nil (part b from n) ∙ ap (part b from) (sym (add-zero n))
+
+sent-on : (b : List ℕ) (l : Lengths) (from sent : ℕ) (e : Reply) → Next l (from + sent) (Awaiting e) → part b from sent ++ part b (dueFrom l e) (dueAfter l e .len) ≡ part b from (sent + dueAfter l e .len)
+sent-on b l from sent (NegotiationRes m) q = rw q (part-on b from sent _)
+sent-on b l from sent AuthenticationRes q = rw q (part-on b from sent _)
+sent-on b l from sent ProxyRes q = part-none b from sent (dueFrom l ProxyRes)
+sent-on b l from sent Response q = part-none b from sent (dueFrom l Response)
 
 -- ---- the loop
 
-pub record Going (c : Kept) (whole : SideFed) (bytes out₀ : List ℕ) (stage : Stage) (place next left : ℕ) (out : List ℕ) : Type 0 where
-  pub sent : List ℕ
-  pub wrote : Wrote out₀ 0 sent next out
-  pub turning : Turning c whole bytes stage place sent
-  pub limits : Limited c
-  pub room : next + stillDue stage ≤ length out
-  pub ends : rank stage ≤ left
+pub record Going (l : Lengths) (e₀ : Reply) (bytes : List ℕ) (stage : Stage) (place sent : ℕ) : Type 0 where
+  pub left : (b : List ℕ) → Left (onStage (keptIn l b) (Awaiting e₀) bytes) (part b (dueFrom l e₀) sent) place (onStage (keptIn l b) stage (drop place bytes))
+  pub next : Next l (dueFrom l e₀ + sent) stage
+  pub room : sent + stillDue stage ≤ stillDue (Awaiting e₀)
   pub inside : place ≤ length bytes
 
-pub going-start : (c : Kept) (e : Reply) (bytes out : List ℕ) → Limited c → room e ≤ length out → Going c (onStage c (Awaiting e) bytes) bytes out (Awaiting e) 0 0 3 out
-going-start c e bytes out l h =
+pub going-first : (l : Lengths) (e : Reply) (bytes : List ℕ) → Going l e bytes (Awaiting e) 0 0
+going-first l e bytes =
     record {
-      sent = [];
-      wrote = wrote-none out 0 zero-le;
-      turning = turn-start c e bytes;
-      limits = l;
-      room = starts e h;
-      ends = at-most e;
+      left = λ b. record { session = refl; sends = refl; places = sym (zero-add _) };
+      next = next-first l e;
+      room = omega arith;
       inside = zero-le;
     }
-  where
-    starts : (e : Reply) → room e ≤ length out → 0 + stillDue (Awaiting e) ≤ length out
-    starts (NegotiationRes m) h = omega arith
-    starts AuthenticationRes h = omega arith
-    starts ProxyRes h = zero-le
-    starts Response h = zero-le
 
-    at-most : (e : Reply) → rank (Awaiting e) ≤ 3
-    at-most (NegotiationRes m) = le-refl _
-    at-most AuthenticationRes = omega arith
-    at-most ProxyRes = omega arith
-    at-most Response = omega arith
+module _ {l : Lengths} {e₀ : Reply} {bytes : List ℕ} {place sent : ℕ} where
+  on-good : (e : Reply) (n : ℕ) → decide e (drop place bytes) ≡ Decided n Good → Going l e₀ bytes (Awaiting e) place sent → Going l e₀ bytes (dueAfter l e .stage) (place + n) (sent + dueAfter l e .len)
+  on-good e n q g =
+      record {
+        left = λ b. rw (← sent-on b l (dueFrom l e₀) sent e (g .next), ← drop-drop n place bytes) (left-on (part b (dueFrom l e) (dueAfter l e .len)) n (g .left b) (stage-good l b e (drop place bytes) n q));
+        next = next-on l (dueFrom l e₀) sent e (g .next);
+        room = omega (arith, still-after l e, g .room);
+        inside = omega (arith, decided-within e (drop place bytes) n Good q, length-drop place bytes, g .inside);
+      }
 
-module _ {c : Kept} {whole : SideFed} {bytes out₀ : List ℕ} {place next left : ℕ} {out : List ℕ} {stage′ : Stage} {place′ next′ : ℕ} {again : Bool} {out′ : List ℕ} where
-  on-good : (e : Reply) (n : ℕ) → decide e (drop place bytes) ≡ Decided n Good → Going c whole bytes out₀ (Awaiting e) place next left out
-      → Turns c (Awaiting e) bytes place out next stage′ place′ next′ again out′ → Going c whole bytes out₀ stage′ place′ next′ (left - 1) out′
-  on-good e n q g t =
-      let staged : stage′ ≡ dueAfter c e .stage = rw q at (t .sends .staged) in
-      let wrote : Wrote out next (dueAfter c e .sent) next′ out′ = rw q at (t .sends .wrote) in
-      let placed : place′ ≡ place + n = rw q at (t .placed) in
-      let r = rank-falls c e in
-      let l = g .ends in
-      let i = g .inside in
-      rw (staged, placed)
-      (record {
-        sent = g .sent ++ dueAfter c e .sent;
-        wrote = then (g .wrote) wrote;
-        turning = turn-good c whole bytes place (g .sent) e n (g .turning) q;
-        limits = g .limits;
-        room = omega (arith, wrote .place, wrote-length wrote, still-after c (g .limits) e, g .room);
-        ends = omega arith;
-        inside = omega (arith, decided-within e (drop place bytes) n Good q, length-drop place bytes);
-      })
+  on-bad : (e : Reply) (n : ℕ) (x : SocksError) → decide e (drop place bytes) ≡ Decided n (Bad x) → Going l e₀ bytes (Awaiting e) place sent → Going l e₀ bytes (Failed x) (place + n) sent
+  on-bad e n x q g =
+      record {
+        left = λ b. rw (← append-nil (part b (dueFrom l e₀) sent)) (left-on [] n (g .left b) (stage-bad (keptIn l b) e (drop place bytes) n x q));
+        next = tt;
+        room = omega (arith, g .room);
+        inside = omega (arith, decided-within e (drop place bytes) n (Bad x) q, length-drop place bytes, g .inside);
+      }
 
-  on-bad : (e : Reply) (n : ℕ) (x : SocksError) → decide e (drop place bytes) ≡ Decided n (Bad x) → Going c whole bytes out₀ (Awaiting e) place next left out
-      → Turns c (Awaiting e) bytes place out next stage′ place′ next′ again out′ → Worked whole bytes out₀ stage′ place′ next′ out′
-  on-bad e n x q g t =
-      let staged : stage′ ≡ Failed x = rw q at (t .sends .staged) in
-      let wrote : Wrote out next [] next′ out′ = rw q at (t .sends .wrote) in
-      let placed : place′ ≡ place + n = rw q at (t .placed) in
-      let i = g .inside in
-      let w = turn-failed c whole bytes (place + n) (g .sent) x (turn-bad c whole bytes place (g .sent) e n x (g .turning) q) in
-      rw (staged, placed)
-      (record {
-        session = ap (λ (f : SideFed). f .session) w;
-        placed = ap (λ (f : SideFed). f .place) w;
-        inside = omega (arith, decided-within e (drop place bytes) n (Bad x) q, length-drop place bytes);
-        wrote = subst (λ (l : List ℕ). Wrote out₀ 0 l next′ out′) (append-nil (g .sent) ∙ sym (ap (λ (f : SideFed). f .sent) w)) (then (g .wrote) wrote);
-        few = zero-le;
-      })
+  module _ {stage′ : Stage} {place′ sent′ : ℕ} where
+    -- a turn that reads nothing
+    stays : (stage : Stage) → stage′ ≡ stage → place′ ≡ place + 0 → sent′ ≡ sent + 0 → Going l e₀ bytes stage place sent → Going l e₀ bytes stage′ place′ sent′
+    stays stage s p n g =
+        let p′ : place′ ≡ place = p ∙ add-zero place in
+        let n′ : sent′ ≡ sent = n ∙ add-zero sent in
+        rw (s, p′, n′) g
 
-  on-waits : (e : Reply) → decide e (drop place bytes) ≡ Undecided → Going c whole bytes out₀ (Awaiting e) place next left out
-      → Turns c (Awaiting e) bytes place out next stage′ place′ next′ again out′ → Worked whole bytes out₀ stage′ place′ next′ out′
-  on-waits e q g t =
-      let goes : again ≡ false = rw q at (t .goes) in
-      let staged : stage′ ≡ Awaiting e = rw q at (t .sends .staged) in
-      let wrote : Wrote out next [] next′ out′ = rw q at (t .sends .wrote) in
-      let placed : place′ ≡ place = rw (q, add-zero) at (t .placed) in
-      let few : length (drop place bytes) ≤ 261 = rw (staged, placed) at (t .few goes) in
-      let w = turn-waits c whole bytes place (g .sent) e (g .turning) q in
-      rw (staged, placed)
-      (record {
-        session = ap (λ (f : SideFed). f .session) w;
-        placed = ap (λ (f : SideFed). f .place) w;
-        inside = g .inside;
-        wrote = subst (λ (l : List ℕ). Wrote out₀ 0 l next′ out′) (append-nil (g .sent) ∙ sym (ap (λ (f : SideFed). f .sent) w)) (then (g .wrote) wrote);
-        few = few;
-      })
+    pub going-on : (stage : Stage) {again : Bool} → Going l e₀ bytes stage place sent → Turns l stage bytes place sent stage′ place′ sent′ again → Going l e₀ bytes stage′ place′ sent′
+    going-on (Awaiting e) g t = go (decide e (drop place bytes)) refl
+      where
+        go : (d : Decision) → decide e (drop place bytes) ≡ d → Going l e₀ bytes stage′ place′ sent′
+        go Undecided q = stays (Awaiting e) (rw q at (t .staged)) (rw q at (t .placed)) (rw q at (t .counted)) g
+        go (Decided n Good) q =
+            let s : stage′ ≡ dueAfter l e .stage = rw q at (t .staged) in
+            let p : place′ ≡ place + n = rw q at (t .placed) in
+            let c : sent′ ≡ sent + dueAfter l e .len = rw q at (t .counted) in
+            rw (s, p, c) (on-good e n q g)
+        go (Decided n (Bad x)) q =
+            let s : stage′ ≡ Failed x = rw q at (t .staged) in
+            let p : place′ ≡ place + n = rw q at (t .placed) in
+            let c : sent′ ≡ sent = rw (q, add-zero) at (t .counted) in
+            rw (s, p, c) (on-bad e n x q g)
+    going-on Open g t = stays Open (t .staged) (t .placed) (t .counted) g
+    going-on (Failed x) g t = stays (Failed x) (t .staged) (t .placed) (t .counted) g
 
-settled-worked : {c : Kept} {whole : SideFed} {bytes out₀ : List ℕ} {stage : Stage} {place next left : ℕ} {out : List ℕ} → rank stage ≡ 0 → Going c whole bytes out₀ stage place next left out
-    → Worked whole bytes out₀ stage place next out
-settled-worked {c} {whole} {bytes} {out₀} {stage} {place} {next} {left} {out} z g = go stage z (g .turning)
-  where
-    made : (stage : Stage) → length (heldBy (viewAt stage (drop place bytes))) ≤ 261 → whole ≡ record { session = viewAt stage (drop place bytes); sent = g .sent; place = place }
-        → Worked whole bytes out₀ stage place next out
-    made stage few w =
+-- where the loop stands, from the stage that it began at
+pub record Loops (l : Lengths) (began : Stage) (bytes : List ℕ) (stage : Stage) (place sent left : ℕ) : Type 0 where
+  pub reply : Reply
+  pub first : began ≡ Awaiting reply
+  pub going : Going l reply bytes stage place sent
+  pub ends : rank stage ≤ left
+
+pub loops-first : (l : Lengths) (e : Reply) (bytes : List ℕ) {t : Turn} → t ≡ record { stage = Awaiting e; place = 0; sent = 0; again = true } → Loops l (t .stage) bytes (t .stage) (t .place) (t .sent) 3
+loops-first l e bytes q = rw q (record { reply = e; first = refl; going = going-first l e bytes; ends = rank-most e })
+
+same-reply : {e f : Reply} → Awaiting e ≡ Awaiting f → e ≡ f
+same-reply p = cc
+
+-- the loop is left
+pub going-last : {l : Lengths} {e₀ : Reply} {bytes : List ℕ} {stage : Stage} {place sent : ℕ} → Going l e₀ bytes stage place sent → Rests stage (drop place bytes) → Worked l e₀ bytes stage place sent
+going-last {l} {e₀} {bytes} {stage} {place} {sent} g r =
+    record {
+      whole = λ b.
+          let t = g .left b in
+          let s = stage-rests (keptIn l b) stage (drop place bytes) r in
+          same-fed _ _ (t .session ∙ ap (λ (f : SideFed). f .session) s)
+          (t .sends ∙ ap (λ (f : SideFed). part b (dueFrom l e₀) sent ++ f .sent) s ∙ append-nil _)
+          (t .places ∙ ap (λ (f : SideFed). place + f .place) s ∙ add-zero place);
+      inside = g .inside;
+      rests = r;
+      few = omega (arith, g .room);
+    }
+
+pub settled : (stage : Stage) (rest : List ℕ) → rank stage ≤ 0 → Rests stage rest
+settled (Awaiting (NegotiationRes m)) rest z = absurd (omega arith)
+settled (Awaiting AuthenticationRes) rest z = absurd (omega arith)
+settled (Awaiting ProxyRes) rest z = absurd (omega arith)
+settled (Awaiting Response) rest z = absurd (omega arith)
+settled Open rest z = tt
+settled (Failed x) rest z = tt
+
+-- ---- a turn as the code makes it
+
+pub turn-settled : (l : Lengths) (stage : Stage) (bytes : List ℕ) (place sent : ℕ) → rank stage ≡ 0 → Turns l stage bytes place sent stage place sent false
+turn-settled l (Awaiting e) bytes place sent z = absurd (awaits e z)
+turn-settled l Open bytes place sent z = record { staged = refl; counted = sym (add-zero sent); placed = sym (add-zero place); falls = λ a. absurd (clash (sym a)); rests = λ a. tt }
+turn-settled l (Failed x) bytes place sent z = record { staged = refl; counted = sym (add-zero sent); placed = sym (add-zero place); falls = λ a. absurd (clash (sym a)); rests = λ a. tt }
+
+pub judged-small : (l : Lengths) (e : Reply) (v : Verdict) {r : Due} → r ≡ dueJudged l e v → r .len ≤ 775
+judged-small l e Good q = rw q (omega (arith, still-after l e, still-small e))
+judged-small l e (Bad x) q = rw q zero-le
+
+module _ (l : Lengths) (e : Reply) (bytes : List ℕ) (place sent : ℕ) {d : Decision} (p : d ≡ decide e (drop place bytes)) where
+  pub turn-undecided : byte (drop place bytes) 4 ≤ 255 → d ≡ Undecided → Turns l (Awaiting e) bytes place sent (Awaiting e) place sent false
+  turn-undecided y q =
+      let u : decide e (drop place bytes) ≡ Undecided = sym p ∙ q in
+      record {
+        staged = rw u;
+        counted = rw u (sym (add-zero sent));
+        placed = rw u (sym (add-zero place));
+        falls = λ z. absurd (clash (sym z));
+        rests = λ z. (u, undecided-by e (drop place bytes) y u);
+      }
+
+  module _ {n : ℕ} {v : Verdict} (q : d ≡ Decided n v) where
+    pub decided-inside : place ≤ length bytes → place + n ≤ length bytes
+    decided-inside h = omega (arith, decided-within e (drop place bytes) n v (sym p ∙ q), length-drop place bytes)
+
+    pub turn-decided : place ≤ length bytes → {r : Due} → r ≡ dueJudged l e v → {total : ℕ} → total ≡ length bytes → {again : Bool} → again ≡ goesOn (r .stage) (place + n) total
+        → Turns l (Awaiting e) bytes place sent (r .stage) (place + n) (sent + r .len) again
+    turn-decided h {r} s {total} t {again} g =
+        let u : decide e (drop place bytes) ≡ Decided n v = sym p ∙ q in
         record {
-          session = ap (λ (f : SideFed). f .session) w;
-          placed = ap (λ (f : SideFed). f .place) w;
-          inside = g .inside;
-          wrote = subst (λ (l : List ℕ). Wrote out₀ 0 l next out) (sym (ap (λ (f : SideFed). f .sent) w)) (g .wrote);
-          few = few;
+          staged = rw (u, s);
+          counted = rw (u, s);
+          placed = rw u;
+          falls = λ z. falls-judged v s (sym g ∙ z);
+          rests = λ z. rests-at (r .stage) (sym g ∙ z);
         }
+      where
+        falls-judged : (v : Verdict) → r ≡ dueJudged l e v → goesOn (r .stage) (place + n) total ≡ true → rank (r .stage) < rank (Awaiting e)
+        falls-judged Good s z = rw s (rank-falls l e)
+        falls-judged (Bad x) s z = let k : false ≡ true = rw s at z in absurd (clash (sym k))
 
-    go : (stage : Stage) → rank stage ≡ 0 → Turning c whole bytes stage place (g .sent) → Worked whole bytes out₀ stage place next out
-    go (Awaiting e) z t = absurd (awaits e z)
-    go Open z t = made Open zero-le (turn-open c whole bytes place (g .sent) t)
-    go (Failed x) z t = made (Failed x) zero-le (turn-failed c whole bytes place (g .sent) x t)
+        rests-at : (stage : Stage) → goesOn stage (place + n) total ≡ false → Rests stage (drop (place + n) bytes)
+        rests-at (Awaiting w) z = none-left w (drop (place + n) bytes) (length-drop (place + n) bytes ∙ (let k = ltb-false (place + n) total z in omega arith))
+        rests-at Open z = tt
+        rests-at (Failed x) z = tt
 
-stays : {c : Kept} {whole : SideFed} {bytes out₀ : List ℕ} {place next left : ℕ} {out : List ℕ} {stage stage′ : Stage} {place′ next′ : ℕ} {out′ : List ℕ} → rank stage ≡ 0 → stage′ ≡ stage → place′ ≡ place + 0 → Wrote out next [] next′ out′
-    → Going c whole bytes out₀ stage place next left out → Worked whole bytes out₀ stage′ place′ next′ out′
-stays {c} {whole} {bytes} {out₀} {place} {next} {left} {out} {stage} {stage′} {place′} {next′} {out′} z s p w g =
-    let p′ : place′ ≡ place = rw add-zero at p in
-    rw (s, p′) (settled-worked z (record { sent = g .sent; wrote = subst (λ (l : List ℕ). Wrote out₀ 0 l next′ out′) (append-nil (g .sent)) (then (g .wrote) w); turning = g .turning; limits = g .limits; room = omega (arith, w .place, wrote-length w, g .room); ends = g .ends; inside = g .inside }))
+module _ {l : Lengths} {began : Stage} {bytes : List ℕ} {stage : Stage} {place sent left : ℕ} where
+  module _ {stage′ : Stage} {place′ sent′ : ℕ} {again : Bool} where
+    pub loops-on : Loops l began bytes stage place sent left → Turns l stage bytes place sent stage′ place′ sent′ again → again ≡ true → Loops l began bytes stage′ place′ sent′ (left - 1)
+    loops-on g t a = let f = t .falls a in let k = g .ends in record { reply = g .reply; first = g .first; going = going-on stage (g .going) t; ends = omega arith }
 
-module _ {c : Kept} {whole : SideFed} {bytes out₀ : List ℕ} {place next left : ℕ} {out : List ℕ} {stage′ : Stage} {place′ next′ : ℕ} {again : Bool} {out′ : List ℕ} where
-  -- another turn follows
-  pub going-on : (stage : Stage) → Going c whole bytes out₀ stage place next left out → Turns c stage bytes place out next stage′ place′ next′ again out′ → again ≡ true
-      → Going c whole bytes out₀ stage′ place′ next′ (left - 1) out′
-  going-on (Awaiting e) g t y = go (decide e (drop place bytes)) refl (sym (t .goes) ∙ y)
-    where
-      go : (d : Decision) → decide e (drop place bytes) ≡ d → goesOn d ≡ true → Going c whole bytes out₀ stage′ place′ next′ (left - 1) out′
-      go Undecided q z = absurd (clash (sym z))
-      go (Decided n Good) q z = on-good e n q g t
-      go (Decided n (Bad x)) q z = absurd (clash (sym z))
-  going-on Open g t y = absurd (clash (sym y ∙ t .goes))
-  going-on (Failed x) g t y = absurd (clash (sym y ∙ t .goes))
+    pub loops-break : (e : Reply) → began ≡ Awaiting e → Loops l began bytes stage place sent left → Turns l stage bytes place sent stage′ place′ sent′ again → again ≡ false → Worked l e bytes stage′ place′ sent′
+    loops-break e q g t a = rw (same-reply (sym q ∙ g .first)) (going-last (going-on stage (g .going) t) (t .rests a))
 
-  -- the loop is left
-  pub going-last : (stage : Stage) → Going c whole bytes out₀ stage place next left out → Turns c stage bytes place out next stage′ place′ next′ again out′ → again ≡ false
-      → Worked whole bytes out₀ stage′ place′ next′ out′
-  going-last (Awaiting e) g t y = go (decide e (drop place bytes)) refl (sym (t .goes) ∙ y)
-    where
-      go : (d : Decision) → decide e (drop place bytes) ≡ d → goesOn d ≡ false → Worked whole bytes out₀ stage′ place′ next′ out′
-      go Undecided q z = on-waits e q g t
-      go (Decided n Good) q z = absurd (clash z)
-      go (Decided n (Bad x)) q z = on-bad e n x q g t
-  going-last Open g t y = stays refl (t .sends .staged) (t .placed) (t .sends .wrote) g
-  going-last (Failed x) g t y = stays refl (t .sends .staged) (t .placed) (t .sends .wrote) g
-
--- no turn is left
-pub going-out : {c : Kept} {whole : SideFed} {bytes out₀ : List ℕ} {stage : Stage} {place next left : ℕ} {out : List ℕ} → Going c whole bytes out₀ stage place next left out → left ≤ 0
-    → Worked whole bytes out₀ stage place next out
-going-out g z = let r = g .ends in settled-worked (omega arith) g
+  pub loops-end : (e : Reply) → began ≡ Awaiting e → Loops l began bytes stage place sent left → left ≤ 0 → Worked l e bytes stage place sent
+  loops-end e q g z = let k = g .ends in rw (same-reply (sym q ∙ g .first)) (going-last (g .going) (settled stage (drop place bytes) (omega arith)))

@@ -1,22 +1,28 @@
--- One turn of a delivery: what a stage does with the unread bytes.
-use Prim.Native.Nat.{ℕ, _+_, _≤_}
+-- The turns of a delivery: what a stage does with the unread bytes.
+use Prim.Native.Nat.{ℕ, _+_, _-_, _≤_, _<_}
 use mathlib.Core.Path.{_≡_}
 use mathlib.Core.Bool.{Bool, true, false}
-use mathlib.Core.List.{List, []}
+use mathlib.Core.List.{List, _++_}
 use lib.ListN.{length, drop}
+use lib.Dec.{ltb}
 use Rattle.protocol.specs.declared.Reply.{Reply}
-use Rattle.protocol.specs.declared.Verdict.{Verdict}
-use Rattle.protocol.specs.declared.Verdict.the-variants.{Good, Bad}
 use Rattle.protocol.specs.declared.Decision.{Decision}
 use Rattle.protocol.specs.declared.Decision.the-variants.{Undecided, Decided}
 use Rattle.protocol.specs.Replies.{decide}
 use Rattle.protocol.specs.Client.{Kept, talkAt, client}
+use Rattle.sending.specs.declared.Lengths.{Lengths}
+use Rattle.sending.specs.declared.Due.{Due}
 use Rattle.sending.specs.declared.Stage.{Stage}
 use Rattle.sending.specs.declared.Stage.the-variants.{Awaiting, Open, Failed}
-use Rattle.sending.specs.Stages.{SideFed, viewAt}
-use Rattle.sending.specs.Due.{Due, dueJudged, Sends}
-use Rattle.wire.specs.Written.{Wrote}
+use Rattle.sending.specs.Stages.{SideFed, viewAt, rank}
+use Rattle.sending.specs.Parts.{part, requestsOf}
+use Rattle.sending.specs.Due.{dueJudged, dueFrom, stillDue}
+use Rattle.turns.specs.declared.Taken.{Taken}
 use Rattle.talk.specs.Talk.{done, failed, ended, unmoved, feed, heldBy}
+
+-- requests of these lengths, whatever their bytes
+abbrev pub keptIn : Lengths → List ℕ → Kept
+keptIn l b = requestsOf (record { lengths = l; bytes = b })
 
 -- what bytes do at a stage
 abbrev pub onStage : Kept → Stage → List ℕ → SideFed
@@ -24,14 +30,14 @@ onStage c (Awaiting e) bs = feed (client c) (talkAt c e) bs
 onStage c Open bs = unmoved (ended (done tt))
 onStage c (Failed x) bs = unmoved (ended (failed x))
 
-abbrev pub dueDecided : Kept → Reply → Decision → Due
-dueDecided c e Undecided = record { sent = []; stage = Awaiting e }
-dueDecided c e (Decided n v) = dueJudged c e v
+abbrev pub dueDecided : Lengths → Reply → Decision → Due
+dueDecided l e Undecided = record { stage = Awaiting e; len = 0 }
+dueDecided l e (Decided n v) = dueJudged l e v
 
-abbrev pub dueTurn : Kept → Stage → List ℕ → Due
-dueTurn c (Awaiting e) bs = dueDecided c e (decide e bs)
-dueTurn c Open bs = record { sent = []; stage = Open }
-dueTurn c (Failed x) bs = record { sent = []; stage = Failed x }
+abbrev pub dueTurn : Lengths → Stage → List ℕ → Due
+dueTurn l (Awaiting e) bs = dueDecided l e (decide e bs)
+dueTurn l Open bs = record { stage = Open; len = 0 }
+dueTurn l (Failed x) bs = record { stage = Failed x; len = 0 }
 
 abbrev pub decidedBytes : Decision → ℕ
 decidedBytes Undecided = 0
@@ -43,37 +49,45 @@ turnBytes (Awaiting e) bs = decidedBytes (decide e bs)
 turnBytes Open bs = 0
 turnBytes (Failed x) bs = 0
 
-abbrev pub isGood : Verdict → Bool
-isGood Good = true
-isGood (Bad x) = false
+-- a reply is awaited, and a byte is unread
+abbrev pub goesOn : Stage → ℕ → ℕ → Bool
+goesOn (Awaiting e) place total = ltb place total
+goesOn Open place total = false
+goesOn (Failed x) place total = false
 
-abbrev pub goesOn : Decision → Bool
-goesOn Undecided = false
-goesOn (Decided n v) = isGood v
+-- nothing is left to do: the stage has ended, or its reply is undecided; what it then holds fits the hold
+abbrev pub Rests : Stage → List ℕ → Type 0
+Rests (Awaiting e) rest = (decide e rest ≡ Undecided) × (length rest ≤ 261)
+Rests Open rest = Unit {0}
+Rests (Failed x) rest = Unit {0}
 
--- whether another turn follows
-abbrev pub turnAgain : Stage → List ℕ → Bool
-turnAgain (Awaiting e) bs = goesOn (decide e bs)
-turnAgain Open bs = false
-turnAgain (Failed x) bs = false
-
-pub record Turns (c : Kept) (from : Stage) (bytes : List ℕ) (place : ℕ) (out : List ℕ) (at : ℕ) (stage : Stage) (place′ : ℕ) (next : ℕ) (again : Bool) (out′ : List ℕ) : Type 0 where
-  pub sends : Sends (dueTurn c from (drop place bytes)) out at stage next out′
+pub record Turns (l : Lengths) (from : Stage) (bytes : List ℕ) (place sent : ℕ) (stage : Stage) (place′ sent′ : ℕ) (again : Bool) : Type 0 where
+  pub staged : stage ≡ dueTurn l from (drop place bytes) .stage
+  pub counted : sent′ ≡ sent + dueTurn l from (drop place bytes) .len
   pub placed : place′ ≡ place + turnBytes from (drop place bytes)
-  pub goes : again ≡ turnAgain from (drop place bytes)
-  -- what is left to hold fits the hold
-  pub few : again ≡ false → length (heldBy (viewAt stage (drop place′ bytes))) ≤ 261
+  pub falls : again ≡ true → rank stage < rank from
+  pub rests : again ≡ false → Rests stage (drop place′ bytes)
 
--- a delivery worked through: all that the bytes do
-pub record Worked (whole : SideFed) (bytes : List ℕ) (out : List ℕ) (stage : Stage) (place : ℕ) (next : ℕ) (out′ : List ℕ) : Type 0 where
-  pub session : whole .session ≡ viewAt stage (drop place bytes)
-  pub placed : whole .place ≡ place
+-- a delivery worked through: all that the bytes do, whatever the bytes of the requests
+pub record Worked (l : Lengths) (e : Reply) (bytes : List ℕ) (stage : Stage) (place sent : ℕ) : Type 0 where
+  pub whole : (b : List ℕ) → feed (client (keptIn l b)) (talkAt (keptIn l b) e) bytes ≡ record { session = viewAt stage (drop place bytes); sent = part b (dueFrom l e) sent; place = place }
   pub inside : place ≤ length bytes
-  pub wrote : Wrote out 0 (whole .sent) next out′
-  pub few : length (heldBy (viewAt stage (drop place bytes))) ≤ 261
+  pub rests : Rests stage (drop place bytes)
+  pub few : sent ≤ stillDue (Awaiting e)
 
--- how many bytes a stage holds of so many unread
-abbrev pub heldCount : Stage → ℕ → ℕ
-heldCount (Awaiting e) n = n
-heldCount Open n = 0
-heldCount (Failed x) n = 0
+-- what a piece comes to where nothing is left to do behind a place: the rest of a stage that waits is held at the hold's start
+pub record Keeps (stage : Stage) (place : ℕ) (held piece hold : List ℕ) (r : Taken) (hold′ : List ℕ) : Type 0 where
+  pub staged : r .stage ≡ stage
+  pub counts : r .held ≡ length (heldBy (viewAt stage (drop place (held ++ piece))))
+  pub holds : hold′ ≡ heldBy (viewAt stage (drop place (held ++ piece))) ++ drop (length (heldBy (viewAt stage (drop place (held ++ piece))))) hold
+  pub uses : r .used ≡ place + length (heldBy (viewAt stage (drop place (held ++ piece)))) - length held
+  pub within : r .used ≤ length piece
+
+-- a piece taken: all that held bytes and piece do, whatever the bytes of the requests
+pub record Takes (l : Lengths) (e : Reply) (held piece hold : List ℕ) (r : Taken) (hold′ : List ℕ) : Type 0 where
+  pub stage : Stage
+  pub place : ℕ
+  pub whole : (b : List ℕ) → feed (client (keptIn l b)) (talkAt (keptIn l b) e) (held ++ piece) ≡ record { session = viewAt stage (drop place (held ++ piece)); sent = part b (r .from) (r .sent); place = place }
+  pub keeps : Keeps stage place held piece hold r hold′
+  pub few : r .sent ≤ stillDue (Awaiting e)
+  pub inside : r .from + r .sent ≤ 778

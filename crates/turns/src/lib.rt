@@ -1,23 +1,26 @@
-// A delivery: replies read from the held bytes and the piece, one after the other, with what they make due sent in between.
+// A piece taken by a session that waits, turn by turn: replies read from the held bytes and the piece, one after the other, with what they
+// make due counted; and the undecided rest kept at the start of the hold.
 ghost use mathlib.Core.Path.{_≡_};
 ghost use mathlib.Core.List.{_++_};
 ghost use Prim.Native.Nat.{_+_, _-_, _≤_};
-ghost use lib.ListN.{length};
-ghost use Rattle.protocol.specs.Client.{client, talkAt, room};
-ghost use Rattle.sending.specs.Stages.{requestsOf};
+ghost use mathlib.Core.Bool.{true, false};
+ghost use lib.ListN.{length, take, drop};
+ghost use Rattle.wire.specs.Written.{overwrite};
 ghost use Rattle.sending.specs.Due.{stillDue};
 ghost use Rattle.sending.specs.declared.Stage.the-variants as Stage;
-ghost use Rattle.turns.specs.Turns.{isGood, Turns, Worked, heldCount};
-ghost use Rattle.talk.specs.Talk.{feed};
+ghost use Rattle.turns.specs.Turns.{goesOn, Rests, Turns, Worked, Keeps, Takes};
 use protocol::Decision;
 use protocol::Reply;
-use protocol::Verdict;
+use reading::fewest;
+use reading::keep_rest;
 use reading::read_at;
-use sending::Kept;
+use sending::Lengths;
 use sending::Stage;
-use sending::send_judged;
+use sending::due_from;
+use sending::due_judged;
+use wire::least;
 
-// Where a delivery stands: the stage, the place in the held bytes and the piece, the place in the output, and whether another turn follows.
+// Where a delivery stands: the stage, the place in the held bytes and the piece, how many bytes became due, and whether another turn follows.
 pub struct Turn {
     pub stage: Stage,
     pub place: usize,
@@ -25,86 +28,145 @@ pub struct Turn {
     pub again: bool,
 }
 
-fn is_good(verdict: Verdict) -> bool
-    ensures { λ r. ⌜ r ≡ isGood verdict ⌝ }
+// Another turn follows where a reply is awaited and a byte is unread.
+fn goes_on(stage: Stage, place: usize, total: usize) -> bool
+    ensures { λ r. ⌜ r ≡ goesOn stage place total ⌝ }
 {
-    match verdict {
-        Verdict::Good => true,
-        Verdict::Bad(error) => false,
-    }
-}
-
-// A turn at a stage that waits for a reply.
-fn read_turn(
-    kept: Kept,
-    reply: Reply,
-    held: &[u8],
-    piece: &[u8],
-    place: usize,
-    out: &mut [u8],
-    at: usize,
-) -> Turn
-    requires { ⌜ (length (now held) ≤ 261) × (place ≤ length (now held) + length (now piece)) × (at + stillDue (Stage.Awaiting reply) ≤ length (now out)) ⌝ }
-    ensures { λ r. ⌜ Turns (requestsOf kept) (Stage.Awaiting reply) (now (held .entry) ++ now (piece .entry)) place (now (out .entry)) at (r .stage) (r .place) (r .sent) (r .again) (now (out .exit)) ⌝ }
-{
-    match read_at(reply, held, piece, place) {
-        Decision::Undecided => Turn {
-            stage: Stage::Awaiting(reply),
-            place: place,
-            sent: at,
-            again: false,
-        },
-        Decision::Decided(n, verdict) => {
-            let due = send_judged(kept, reply, verdict, out, at);
-            let stage = due.stage;
-            Turn {
-                stage: stage,
-                place: place + n,
-                sent: due.sent,
-                again: is_good(verdict),
-            }
-        }
-    }
-}
-
-// A turn from wherever the delivery stands.
-fn turn_on(kept: Kept, turn: Turn, held: &[u8], piece: &[u8], out: &mut [u8]) -> Turn
-    requires { ⌜ (length (now held) ≤ 261) × (turn .place ≤ length (now held) + length (now piece)) × (turn .sent + stillDue (turn .stage) ≤ length (now out)) ⌝ }
-    ensures { λ r. ⌜ Turns (requestsOf kept) (turn .stage) (now (held .entry) ++ now (piece .entry)) (turn .place) (now (out .entry)) (turn .sent) (r .stage) (r .place) (r .sent) (r .again) (now (out .exit)) ⌝ }
-{
-    let stage = turn.stage;
     match stage {
-        Stage::Awaiting(reply) => read_turn(kept, reply, held, piece, turn.place, out, turn.sent),
-        Stage::Open => Turn {
-            stage: stage,
-            place: turn.place,
-            sent: turn.sent,
-            again: false,
-        },
-        Stage::Failed(error) => Turn {
-            stage: stage,
-            place: turn.place,
-            sent: turn.sent,
-            again: false,
-        },
+        Stage::Awaiting(reply) => place < total,
+        Stage::Open => false,
+        Stage::Failed(error) => false,
     }
 }
 
-// Works through held bytes and a piece until the session waits, opens or fails: at most three replies.
-pub fn work(kept: Kept, reply: Reply, held: &[u8], piece: &[u8], out: &mut [u8]) -> Turn
-    requires { ⌜ (length (now held) ≤ 261) × (room reply ≤ length (now out)) ⌝ }
-    ensures { λ r. ⌜ Worked (feed (client (requestsOf kept)) (talkAt (requestsOf kept) reply) (now (held .entry) ++ now (piece .entry))) (now (held .entry) ++ now (piece .entry)) (now (out .entry)) (r .stage) (r .place) (r .sent) (now (out .exit)) ⌝ }
+// What a piece comes to beside the hold: the stage, how many bytes are held and were used, and the part of the requests that became due.
+pub struct Taken {
+    pub stage: Stage,
+    pub held: usize,
+    pub used: usize,
+    pub from: usize,
+    pub sent: usize,
+}
+
+// A delivery begins at a stage that waits for a reply.
+fn first(reply: Reply) -> Turn
+    ensures { λ r. ⌜ r ≡ record { stage = Stage.Awaiting reply; place = 0; sent = 0; again = true } ⌝ }
 {
-    let mut turn = Turn {
+    Turn {
         stage: Stage::Awaiting(reply),
         place: 0,
         sent: 0,
         again: true,
-    };
+    }
+}
+
+impl Turn {
+    // A turn at a stage that waits for a reply.
+    fn read(self, lengths: Lengths, reply: Reply, held: &[u8], piece: &[u8]) -> Turn
+        requires { ⌜ (length (now held) ≤ 261) × (self .place ≤ length (now held) + length (now piece)) × (self .sent + stillDue (Stage.Awaiting reply) ≤ 775) ⌝ }
+        ensures { λ r. ⌜ Turns lengths (Stage.Awaiting reply) (now (held .entry) ++ now (piece .entry)) (self .place) (self .sent) (r .stage) (r .place) (r .sent) (r .again) ⌝ }
+    {
+        match read_at(reply, held, piece, self.place) {
+            Decision::Undecided => Turn {
+                stage: Stage::Awaiting(reply),
+                place: self.place,
+                sent: self.sent,
+                again: false,
+            },
+            Decision::Decided(n, verdict) => {
+                let due = due_judged(lengths, reply, verdict);
+                let stage = due.stage;
+                let place = self.place + n;
+                Turn {
+                    stage: stage,
+                    place: place,
+                    sent: self.sent + due.len,
+                    again: goes_on(stage, place, held.len() + piece.len()),
+                }
+            }
+        }
+    }
+
+    // A turn from wherever the delivery stands.
+    fn next(self, lengths: Lengths, held: &[u8], piece: &[u8]) -> Turn
+        requires { ⌜ (length (now held) ≤ 261) × (self .place ≤ length (now held) + length (now piece)) × (self .sent + stillDue (self .stage) ≤ 775) ⌝ }
+        ensures { λ r. ⌜ Turns lengths (self .stage) (now (held .entry) ++ now (piece .entry)) (self .place) (self .sent) (r .stage) (r .place) (r .sent) (r .again) ⌝ }
+    {
+        let stage = self.stage;
+        match stage {
+            Stage::Awaiting(reply) => self.read(lengths, reply, held, piece),
+            Stage::Open => self.last(),
+            Stage::Failed(error) => self.last(),
+        }
+    }
+
+    // No turn follows.
+    fn last(self) -> Turn
+        ensures { λ r. ⌜ r ≡ record { stage = self .stage; place = self .place; sent = self .sent; again = false } ⌝ }
+    {
+        let stage = self.stage;
+        Turn {
+            stage: stage,
+            place: self.place,
+            sent: self.sent,
+            again: false,
+        }
+    }
+
+    // The session has ended and holds nothing. Behind n held bytes the piece was used as far as replies were decided.
+    fn ended(self, n: usize, from: usize) -> Taken
+        ensures { λ r. ⌜ r ≡ record { stage = self .stage; held = 0; used = self .place - n; from = from; sent = self .sent } ⌝ }
+    {
+        let stage = self.stage;
+        Taken {
+            stage: stage,
+            held: 0,
+            used: self.place - least(self.place, n),
+            from: from,
+            sent: self.sent,
+        }
+    }
+
+    // The session waits, and holds what is unread of n held bytes and the piece.
+    fn waits(self, hold: &mut [u8], n: usize, piece: &[u8], from: usize) -> Taken
+        requires { ⌜ (length (now hold) ≡ 261) × (n ≤ 261) × (self .place ≤ n + length (now piece)) × (n + length (now piece) ≤ self .place + 261) ⌝ }
+        ensures { λ r. ⌜ (r ≡ record { stage = self .stage; held = n + length (now (piece .entry)) - self .place; used = length (now (piece .entry)); from = from; sent = self .sent }) × (now (hold .exit) ≡ overwrite (now (hold .entry)) 0 (drop (self .place) (take n (now (hold .entry)) ++ now (piece .entry)))) ⌝ }
+    {
+        let stage = self.stage;
+        keep_rest(hold, n, piece, self.place);
+        Taken {
+            stage: stage,
+            held: n + piece.len() - self.place,
+            used: piece.len(),
+            from: from,
+            sent: self.sent,
+        }
+    }
+
+    // What the piece came to, where no turn follows.
+    fn taken(self, hold: &mut [u8], n: usize, piece: &[u8], from: usize) -> Taken
+        requires { ⌜ (length (now hold) ≡ 261) × (n ≤ 261) × (self .place ≤ n + length (now piece)) × Rests (self .stage) (drop (self .place) (take n (now hold) ++ now piece)) ⌝ }
+        ensures { λ r. ⌜ Keeps (self .stage) (self .place) (take n (now (hold .entry))) (now (piece .entry)) (now (hold .entry)) r (now (hold .exit)) × (r .from ≡ from) × (r .sent ≡ self .sent) ⌝ }
+    {
+        let stage = self.stage;
+        match stage {
+            Stage::Awaiting(reply) => self.waits(hold, n, piece, from),
+            Stage::Open => self.ended(n, from),
+            Stage::Failed(error) => self.ended(n, from),
+        }
+    }
+}
+
+// Works through held bytes and a piece until the session waits, opens or fails: at most three replies.
+fn work(lengths: Lengths, reply: Reply, held: &[u8], piece: &[u8]) -> Turn
+    requires { ⌜ length (now held) ≤ 261 ⌝ }
+    ensures { λ r. ⌜ Worked lengths reply (now (held .entry) ++ now (piece .entry)) (r .stage) (r .place) (r .sent) ⌝ }
+{
+    let mut turn = first(reply);
     let mut left: usize = 3;
     while 0 < left {
         left -= 1;
-        turn = turn_on(kept, turn, held, piece, out);
+        turn = turn.next(lengths, held, piece);
         if turn.again {} else {
             break;
         }
@@ -112,21 +174,21 @@ pub fn work(kept: Kept, reply: Reply, held: &[u8], piece: &[u8], out: &mut [u8])
     turn
 }
 
-// How many bytes of a piece of so many were used, behind n held ones.
-pub fn used(turn: Turn, n: usize, len: usize) -> usize
-    requires { ⌜ (turn .place ≤ n + len) ⌝ }
-    ensures { λ r. ⌜ r ≡ turn .place + heldCount (turn .stage) (n + len - turn .place) - n ⌝ }
+// Takes a piece behind the first n bytes of the hold. Where they are too few to decide anything all are held.
+pub fn take(lengths: Lengths, reply: Reply, hold: &mut [u8], n: usize, piece: &[u8]) -> Taken
+    requires { ⌜ (length (now hold) ≡ 261) × (n ≤ 261) ⌝ }
+    ensures { λ r. ⌜ Takes lengths reply (take n (now (hold .entry))) (now (piece .entry)) (now (hold .entry)) r (now (hold .exit)) ⌝ }
 {
-    let stage = turn.stage;
-    match stage {
-        Stage::Awaiting(reply) => len,
-        Stage::Open => behind(turn.place, n),
-        Stage::Failed(error) => behind(turn.place, n),
+    if n + piece.len() < fewest(reply) {
+        wire::copy(hold, n, piece);
+        return Taken {
+            stage: Stage::Awaiting(reply),
+            held: n + piece.len(),
+            used: piece.len(),
+            from: 0,
+            sent: 0,
+        };
     }
-}
-
-fn behind(place: usize, n: usize) -> usize
-    ensures { λ r. ⌜ r ≡ place - n ⌝ }
-{
-    if place < n { 0 } else { place - n }
+    let turn = work(lengths, reply, &hold[..n], piece);
+    turn.taken(hold, n, piece, due_from(lengths, reply))
 }

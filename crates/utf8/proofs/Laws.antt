@@ -1,16 +1,16 @@
 -- The table's rule, and the loop over a text.
 use Prim.Native.Nat.{ℕ, _+_, _<_, _≤_}
 use native.Mathlib.Numerals.{add-one}
-use mathlib.Core.Path.{_≡_, refl, ap}
-use mathlib.Core.Bool.{Bool, true, false}
-use mathlib.Core.List.{List, [], _∷_}
+use mathlib.Core.Path.{_≡_, refl, sym}
+use mathlib.Core.Bool.{Bool, true}
+use mathlib.Core.List.{List, [], _∷_, _++_}
 use lib.Dec.{eqb}
 use lib.ListN.{length, getD, drop, drop-of-length-le}
 use lib.Seq.{drop-cons}
-use borrow.Author.Tests.{eqb-true}
+use borrow.Author.Tests.{eqb-true, lt-ltb}
 use Rattle.protocol.specs.declared.Utf8State.{Utf8State}
-use Rattle.protocol.specs.declared.Utf8State.the-variants.{Boundary, Invalid}
-use Rattle.protocol.specs.Utf8.{classOf, next, scan, isBoundary, isUtf8}
+use Rattle.protocol.specs.declared.Utf8State.the-variants.{Boundary}
+use Rattle.protocol.specs.Utf8.{classOf, first, next, scan, isBoundary, isUtf8}
 use Rattle.protocol.proofs.Tests.{allBelow, below}
 use Rattle.utf8.specs.Table.{table}
 
@@ -25,22 +25,32 @@ classes = refl
 pub class-at : (b : ℕ) → b < 256 → getD table b 0 ≡ classOf b
 class-at b h = eqb-true (getD table b 0) (classOf b) (below 256 right classes b h)
 
--- no byte leads out of Invalid
-invalid : (bs : List ℕ) → scan Invalid bs ≡ Invalid
-unfolding scan next
-invalid [] = refl
-invalid (b ∷ bs) = invalid bs
+-- Where the rest of a text from a state ends as the whole does: a turn, and the text's end.
+module _ (s : List ℕ) (i : ℕ) (st whole : Utf8State) (inv : scan st (drop i s) ≡ whole) where
+  pub turn : (st′ : Utf8State) → i < length s → st′ ≡ next st (classOf (getD s i 0)) → scan st′ (drop (i + 1) s) ≡ whole
+  unfolding scan
+  turn st′ h e = rw (e, add-one i) (rw (drop-cons s i 0 h) at inv)
 
--- Where the rest of a text from a state ends as the whole does: a turn, the first Invalid, and the text's end.
-pub turn : (s : List ℕ) (i : ℕ) (st st′ : Utf8State) → scan st (drop i s) ≡ scan Boundary s → i < length s → st′ ≡ next st (classOf (getD s i 0))
-    → scan st′ (drop (i + 1) s) ≡ scan Boundary s
+  pub at-end : length s ≤ i → st ≡ whole
+  unfolding scan
+  at-end h = rw (drop-of-length-le s h) at inv
+
+-- a byte below 80 is a character
+pub ascii : (b : ℕ) → b < 0x80 → Boundary ≡ next Boundary (classOf b)
+unfolding classOf next first
+ascii b h = rw (lt-ltb b 0x80 h)
+
+pub scan-append : (st : Utf8State) (s t : List ℕ) → scan st (s ++ t) ≡ scan (scan st s) t
 unfolding scan
-turn s i st st′ inv h e = rw (e, add-one i) (rw (drop-cons s i 0 h) at inv)
+scan-append st [] t = refl
+scan-append st (b ∷ s) t = scan-append (next st (classOf b)) s t
 
-pub at-invalid : (s : List ℕ) (i : ℕ) (st : Utf8State) → scan st (drop i s) ≡ scan Boundary s → st ≡ Invalid → false ≡ isUtf8 s
-unfolding isUtf8 isBoundary
-at-invalid s i st inv e = rw (← inv, e, invalid (drop i s))
+-- bytes in two lists: by the states behind each, and where both are ascii
+module _ (s t : List ℕ) where
+  pub in-two : (mid end : Utf8State) → mid ≡ scan Boundary s → end ≡ scan mid t → isBoundary end ≡ isUtf8 (s ++ t)
+  unfolding isUtf8
+  in-two mid end e f = rw (f, e, scan-append Boundary s t)
 
-pub at-end : (s : List ℕ) (i : ℕ) (st : Utf8State) → scan st (drop i s) ≡ scan Boundary s → length s ≤ i → isBoundary st ≡ isUtf8 s
-unfolding isUtf8 scan
-at-end s i st inv h = rw (drop-of-length-le s h) at (ap isBoundary inv)
+  pub in-two-ascii : scan Boundary s ≡ Boundary → scan Boundary t ≡ Boundary → true ≡ isUtf8 (s ++ t)
+  unfolding isBoundary
+  in-two-ascii e f = in-two Boundary Boundary (sym e) (sym f)

@@ -1,30 +1,12 @@
-// Bytes written into a buffer at a place. The inner functions leave it to their callers that there is room.
+// Bytes written into a buffer at a place. Its callers see to it that there is room.
 ghost use mathlib.Core.Path.{_≡_};
-ghost use mathlib.Core.Bool.{true};
 ghost use mathlib.Core.List.{[], _∷_};
 ghost use Prim.Native.Nat.{_+_, _≤_, _<_, min};
 ghost use lib.ListN.{length, drop};
-ghost use lib.Dec.{leb};
 ghost use Rattle.protocol.specs.Bytes.{two};
 ghost use Rattle.protocol.specs.Requests.{methodByte};
-ghost use Rattle.wire.specs.Written.{Wrote, Writes, placeOf};
+ghost use Rattle.wire.specs.Written.{Wrote};
 use protocol::AuthMethod;
-
-// What a writer answers: the place behind what it wrote; or that it does not fit, with nothing written.
-pub enum Written {
-    At(usize),
-    WouldOverflow,
-}
-
-// Whether n more bytes fit behind a place.
-pub fn has_room(len: usize, at: usize, n: usize) -> bool
-    ensures { λ r. ⌜ r ≡ leb (at + n) len ⌝ }
-{
-    if len < at {
-        return false;
-    }
-    n <= len - at
-}
 
 // Copies src to a place.
 pub fn copy(out: &mut [u8], at: usize, src: &[u8]) -> usize
@@ -64,26 +46,6 @@ pub fn put_counted(out: &mut [u8], at: usize, src: &[u8]) -> usize
 {
     let next = put_byte(out, at, (src.len() % 256) as u8);
     copy(out, next, src)
-}
-
-// Copies src to a place, if it fits.
-pub fn put(out: &mut [u8], at: usize, src: &[u8]) -> Written
-    ensures { λ r. ⌜ Writes true (now (out .entry)) at (now (src .entry)) r (now (out .exit)) ⌝ }
-{
-    if has_room(out.len(), at, src.len()) {
-        return Written::At(copy(out, at, src));
-    }
-    Written::WouldOverflow
-}
-
-// The place behind what was written at a place; where it did not fit, that place.
-pub fn place(written: Written, at: usize) -> usize
-    ensures { λ r. ⌜ r ≡ placeOf written at ⌝ }
-{
-    match written {
-        Written::At(next) => next,
-        Written::WouldOverflow => at,
-    }
 }
 
 pub fn method_byte(method: AuthMethod) -> u8

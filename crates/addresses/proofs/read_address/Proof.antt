@@ -6,8 +6,17 @@ use Rattle.addresses.proofs.read_address.Statement.{statement}
 use Rattle.addresses.proofs.read_address.Tie as tie
 
 -- what the kind says
-told : (c : tie.After-read-ipv4) → Read4 (ipv4Of (c .before .before .args .text .now)) (c .read-ipv4 .result .bytes) (c .read-ipv4 .result .kind)
-told c = rw (c .read-ipv4 .ensures) (read4 (ipv4Of (c .before .before .args .text .now)))
+told : (c : tie.After-read-ipv4) → Read4 (ipv4Of (c .before .before .before .before .args .text .now)) (c .read-ipv4 .result .bytes) (c .read-ipv4 .result .kind)
+told c = rw (c .read-ipv4 .ensures) (read4 (ipv4Of (c .before .before .before .before .args .text .now)))
+
+lacks-mark-requires : tie.Need-lacks-mark-requires
+lacks-mark-requires c κs = search needs
+
+no-address-requires : tie.Need-no-address-requires
+no-address-requires c κs = search needs
+
+returns : tie.Need-returns
+returns c = rw (c .before .before .lacks-mark .ensures (c .before .if1 .taken)) (c .no-address .ensures)
 
 read-ipv4-requires : tie.Need-read-ipv4-requires
 read-ipv4-requires c κs = search needs
@@ -24,19 +33,19 @@ enum-told-3 c = search needs
 read-ipv6-requires : tie.Need-read-ipv6-requires
 read-ipv6-requires c κs = search needs
 
-returns : tie.Need-returns
+returns-2 : tie.Need-returns-2
 unfolding destinationOf
-returns c =
+returns-2 c =
     let (bs, e, f) = rw (c .enum-told .given .1) at (told (c .before .before)) in
     rw e (rw e at (c .before .before .read-ipv4 .ensures))
 
-returns-2 : tie.Need-returns-2
-unfolding destinationOf
-returns-2 c = absurd (rw (c .enum-told2 .given .1) at (told (c .before .before)))
-
 returns-3 : tie.Need-returns-3
 unfolding destinationOf
-returns-3 c =
+returns-3 c = absurd (rw (c .enum-told2 .given .1) at (told (c .before .before)))
+
+returns-4 : tie.Need-returns-4
+unfolding destinationOf
+returns-4 c =
     let e = rw (c .before .enum-told3 .given .1) at (told (c .before .before .before)) in
     rw (e, any-name) (c .read-ipv6 .ensures)
 
@@ -44,11 +53,14 @@ pub read-address-spec : {M : Type 1} → statement M
 read-address-spec =
     tie.close
     (tie.spec
+    lacks-mark-requires
+    no-address-requires
+    returns
     read-ipv4-requires
     enum-told
     enum-told-2
     enum-told-3
     read-ipv6-requires
-    returns
     returns-2
-    returns-3)
+    returns-3
+    returns-4)

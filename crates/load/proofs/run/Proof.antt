@@ -1,16 +1,20 @@
 use borrow.Author.Needs.{needs}
-use Prim.Native.Nat.{_≤_}
+use lib.ListN.{length}
+use mathlib.Core.Path.{_≡_}
 use Rattle.load.proofs.run.Statement.{statement}
 use Rattle.load.proofs.run.Tie as tie
 
 abbrev Inv-loop : tie.InvT-loop
-Inv-loop count seed single longest replies tally₀ left₀ tally left = left ≤ count
+Inv-loop count seed single longest replies out₀ tally₀ left₀ out tally left = 1024 ≡ length out
 
 abbrev μ-loop : tie.MeasureT-loop
-μ-loop count seed single longest replies tally₀ left₀ tally left = left
+μ-loop count seed single longest replies out₀ tally₀ left₀ out tally left = left
 
 all-replies-requires : tie.Need-all-replies-requires Inv-loop μ-loop
 all-replies-requires c κs = search needs
+
+output-requires : tie.Need-output-requires Inv-loop μ-loop
+output-requires c κs = search needs
 
 loop-holds : tie.Need-loop-holds Inv-loop μ-loop
 loop-holds c = search needs
@@ -20,6 +24,9 @@ slice-aggregate-run-one c = search needs
 
 slice-aggregate-run-one-2 : tie.Need-slice-aggregate-run-one-2 Inv-loop μ-loop
 slice-aggregate-run-one-2 c = search needs
+
+slice-aggregate-run-one-3 : tie.Need-slice-aggregate-run-one-3 Inv-loop μ-loop
+slice-aggregate-run-one-3 c = search needs
 
 run-one-requires : tie.Need-run-one-requires Inv-loop μ-loop
 run-one-requires c κs = search needs
@@ -43,9 +50,11 @@ run-spec =
     Inv-loop
     μ-loop
     all-replies-requires
+    output-requires
     loop-holds
     slice-aggregate-run-one
     slice-aggregate-run-one-2
+    slice-aggregate-run-one-3
     run-one-requires
     sub-left
     loop-less

@@ -7,14 +7,8 @@ use Rattle.load.proofs.run_one.Tie as tie
 choose-requires : tie.Need-choose-requires
 choose-requires c κs = search needs
 
-output-requires : tie.Need-output-requires
-output-requires c κs = search needs
-
 slice-aggregate-begin : tie.Need-slice-aggregate-begin
 slice-aggregate-begin c = sym (length-take-le _ _ (search needs))
-
-slice-aggregate-begin-2 : tie.Need-slice-aggregate-begin-2
-slice-aggregate-begin-2 c = search needs
 
 begin-requires : tie.Need-begin-requires
 begin-requires c κs = search needs
@@ -31,11 +25,11 @@ part-feed-start c = search needs
 part-feed-end : tie.Need-part-feed-end
 part-feed-end c = search needs
 
-slice-aggregate-feed : tie.Need-slice-aggregate-feed
-slice-aggregate-feed c = search needs
-
 feed-requires : tie.Need-feed-requires
 feed-requires c κs = search needs
+
+same-length : tie.Need-same-length
+same-length c = search needs
 
 returns : tie.Need-returns
 returns c = search needs
@@ -45,14 +39,12 @@ run-one-spec =
     tie.close
     (tie.spec
     choose-requires
-    output-requires
     slice-aggregate-begin
-    slice-aggregate-begin-2
     begin-requires
     replies-for-requires
     sub-feed
     part-feed-start
     part-feed-end
-    slice-aggregate-feed
     feed-requires
+    same-length
     returns)

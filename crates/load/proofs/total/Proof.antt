@@ -36,6 +36,9 @@ loop-less c = search needs
 loop-again : tie.Need-loop-again Inv-loop μ-loop
 loop-again c = (search needs, (omega (arith, c .shared-slice-known .given (c .before .before .loop .i)), omega (arith, sum-more (c .before .before .before .args .out .now) (c .before .before .loop .i) (omega arith), c .before .before .loop .inv .1 .1)))
 
+cast-result : tie.Need-cast-result Inv-loop μ-loop
+cast-result c = search needs
+
 returns : tie.Need-returns Inv-loop μ-loop
 returns c = let e : c .before .loop .i ≡ c .before .before .args .n = omega arith in
     rw e at (c .before .loop .inv .1 .1)
@@ -53,4 +56,5 @@ total-spec =
     add-i
     loop-less
     loop-again
+    cast-result
     returns)

@@ -1,44 +1,32 @@
-use lib.ListN.{length}
-use Rattle.protocol.specs.Opening.{V4}
-use Rattle.lookup.specs.Chosen.{recordsOf}
-use Rattle.openings.proofs.Accepting.{accepted4}
-use Rattle.openings_v4.proofs.Requesting.{accepts4}
+use Prim.Native.Nat.{ℕ, _≤_}
+use native.Mathlib.Omega.{arith}
+use mathlib.Core.Path.{_≡_}
+use mathlib.Core.List.{List}
+use lib.ListN.{length, replicate}
+use Rattle.openings.specs.Asked.{target4}
+use Rattle.openings.proofs.KeptBy.{zeros-size}
+use Rattle.openings_v4.proofs.Keeping.{accepts4}
 use borrow.Author.Needs.{needs}
 use Rattle.openings_v4.proofs.accept.Statement.{statement}
 use Rattle.openings_v4.proofs.accept.Tie as tie
 
+room : {bs : List ℕ} → bs ≡ replicate 1024 0 → 1024 ≤ length bs
+room z = omega (arith, zeros-size z)
+
 port-number-requires : tie.Need-port-number-requires
 port-number-requires c κs = search needs
 
-send-request-requires : tie.Need-send-request-requires
-send-request-requires c κs =
-    let a = c .before .before .before .before .args in
-    let v : V4 = record { localDns = a .local-dns; host = a .host .now; port = a .port; records = recordsOf (a .chosen) } in
-    let p = accepted4 (length (a .out .now)) v (c .before .before .before .before .pre) in
-    (p .1 .name, p .1 .not-ipv6, p .0)
-
-nothing-requires : tie.Need-nothing-requires
-nothing-requires c κs = search needs
-
-fresh-requires : tie.Need-fresh-requires
-fresh-requires c κs = search needs
+put-request-requires : tie.Need-put-request-requires
+put-request-requires c κs = let p = c .before .before .before .before .pre in (room (p .0), p .1)
 
 same-length : tie.Need-same-length
 same-length c = search needs
 
 returns : tie.Need-returns
 returns c =
-    let a = c .before .before .before .before .before .before .before .before .before .args in
-    let v : V4 = record { localDns = a .local-dns; host = a .host .now; port = a .port; records = recordsOf (a .chosen) } in
-    accepts4 v (c .before .before .before .before .before .before .port-number .ensures) (c .before .before .before .before .send-request .ensures) (c .before .nothing .ensures) (c .fresh .ensures)
+    let start = c .before .before .before .before .before .before .before in
+    let a = start .args in
+    accepts4 (target4 (a .asked) (a .text .now)) (a .port) (c .before .before .before .port-number .ensures) (start .pre .0) (c .before .before .put-request .ensures)
 
 pub accept-spec : {M : Type 1} → statement M
-accept-spec =
-    tie.close
-    (tie.spec
-    port-number-requires
-    send-request-requires
-    nothing-requires
-    fresh-requires
-    same-length
-    returns)
+accept-spec = tie.close (tie.spec port-number-requires put-request-requires same-length returns)

@@ -1,54 +1,39 @@
-use mathlib.Core.Path.{sym, _∙_}
-use lib.ListN.{length}
-use Rattle.protocol.specs.Opening.{V4, check4, opening4}
-use Rattle.lookup.specs.Chosen.{recordsOf}
-use Rattle.session.specs.Calls.{open4}
-use Rattle.openings.proofs.Accepting.{accepts, refuses}
+use Rattle.openings_v4.proofs.Opening.{opens4}
 use borrow.Author.Needs.{needs}
 use Rattle.openings_v4.proofs.open_chosen.Statement.{statement}
 use Rattle.openings_v4.proofs.open_chosen.Tie as tie
 
-check4-requires : tie.Need-check4-requires
-check4-requires c κs = search needs
+slice-aggregate-begin : tie.Need-slice-aggregate-begin
+slice-aggregate-begin c = search needs
 
-enum-told : tie.Need-enum-told
-enum-told c = search needs
+begin-requires : tie.Need-begin-requires
+begin-requires c κs = search needs
 
-accept-requires : tie.Need-accept-requires
-accept-requires c κs = sym (c .before .before .before .check4 .ensures) ∙ c .before .enum-told .given .1
+slice-aggregate-send-first : tie.Need-slice-aggregate-send-first
+slice-aggregate-send-first c = search needs
 
-enum-known-answer : tie.Need-enum-known-answer
-enum-known-answer c = search needs
+send-first-requires : tie.Need-send-first-requires
+send-first-requires c κs = search needs
 
-refuse-requires : tie.Need-refuse-requires
-refuse-requires c κs = search needs
+opened-requires : tie.Need-opened-requires
+opened-requires c κs = search needs
 
 same-length : tie.Need-same-length
 same-length c = search needs
 
 returns : tie.Need-returns
-unfolding open4
-returns c =
-    let a = c .before .before .before .before .before .before .before .before .before .args in
-    let v : V4 = record { localDns = a .local-dns; host = a .host .now; port = a .port; records = recordsOf (a .chosen) } in
-    accepts (check4 (length (a .out .now)) v) (opening4 v) (a .out .now) (sym (c .before .before .before .before .before .before .check4 .ensures) ∙ c .before .before .before .before .enum-told .given .1) (c .before .before .accept .ensures)
-
-returns-2 : tie.Need-returns-2
-unfolding open4
-returns-2 c =
-    let a = c .before .before .before .before .before .before .before .args in
-    let v : V4 = record { localDns = a .local-dns; host = a .host .now; port = a .port; records = recordsOf (a .chosen) } in
-    refuses (check4 (length (a .out .now)) v) (opening4 v) (a .out .now) (sym (c .before .before .before .before .check4 .ensures) ∙ c .before .before .answer .given .1) (c .refuse .ensures)
+returns c e =
+    let a = c .before .before .before .before .before .before .before .before .before .before .before .before .args in
+    opens4 (a .local-dns) (a .host .now) (a .read) (a .port) (a .chosen) e (a .out .now) (c .before .before .before .before .before .before .before .before .begin .ensures) (c .before .before .before .send-first .ensures) (c .opened .ensures)
 
 pub open-chosen-spec : {M : Type 1} → statement M
 open-chosen-spec =
     tie.close
     (tie.spec
-    check4-requires
-    enum-told
-    accept-requires
-    enum-known-answer
-    refuse-requires
+    slice-aggregate-begin
+    begin-requires
+    slice-aggregate-send-first
+    send-first-requires
+    opened-requires
     same-length
-    returns
-    returns-2)
+    returns)

@@ -1,37 +1,66 @@
-use native.Mathlib.Omega.{arith}
-use Rattle.protocol.proofs.Limits.{greeting-size}
-use Rattle.wire.proofs.Laws.{wrote-length}
-use Rattle.sending.specs.Stages.{requestsOf}
-use Rattle.openings_v5.proofs.Greeting.{ahead, plain}
+use Rattle.openings_v5.proofs.Opening.{short5, begins5, refuses5}
 use borrow.Author.Needs.{needs}
 use Rattle.openings_v5.proofs.begin.Statement.{statement}
 use Rattle.openings_v5.proofs.begin.Tie as tie
 
-greet-requires : tie.Need-greet-requires
-greet-requires c κs = search needs
+strip-ipv6-brackets-requires : tie.Need-strip-ipv6-brackets-requires
+strip-ipv6-brackets-requires c κs = search needs
 
-follow-requires : tie.Need-follow-requires
-follow-requires c κs =
-    let start = c .before .before .before .before .before .before .before in
-    let w = c .before .before .before .before .greet .ensures in
-    omega (arith, greeting-size (start .args .method), w .place, wrote-length w, start .pre)
+both-requires : tie.Need-both-requires
+both-requires c κs = search needs
+
+asked-requires : tie.Need-asked-requires
+asked-requires c κs = search needs
+
+check5-requires : tie.Need-check5-requires
+check5-requires c κs = search needs
+
+enum-told : tie.Need-enum-told
+enum-told c = search needs
+
+accept-requires : tie.Need-accept-requires
+accept-requires c κs =
+    let start = c .before .before .before .before .before .before .before .before .before .before .before .before in
+    let a = start .args in (
+      start .pre,
+      short5 (a .config) (a .host .now) (a .read) (a .port) (a .user .now) (a .password .now) (a .chosen) (a .room) (c .before .before .before .before .before .before .before .strip-ipv6-brackets .ensures) (c .before .before .before .check5 .ensures)
+          (c .before .before .before .before .before .both .ensures) (c .before .before .before .before .asked .ensures) (c .before .enum-told .given .1),
+    )
+
+enum-known-answer : tie.Need-enum-known-answer
+enum-known-answer c = search needs
+
+refuse-requires : tie.Need-refuse-requires
+refuse-requires c κs = search needs
 
 same-length : tie.Need-same-length
 same-length c = search needs
 
 returns : tie.Need-returns
 returns c =
-    let a = c .before .before .before .before .before .before .before .before .before .before .args in
-    ahead (requestsOf (a .kept)) (a .method) (c .before .before .before .before .if1 .taken) (c .before .before .before .before .before .before .before .greet .ensures) (c .before .before .follow .ensures)
-
-same-length-2 : tie.Need-same-length-2
-same-length-2 c = search needs
+    let a = c .before .before .before .before .before .before .before .before .before .before .before .before .before .before .before .args in
+    begins5 (a .config) (a .host .now) (a .read) (a .port) (a .user .now) (a .password .now) (a .chosen) (a .room) (c .before .before .before .before .before .before .before .before .before .before .strip-ipv6-brackets .ensures) (c .before .before .before .before .before .before .check5 .ensures)
+    (c .before .before .before .before .before .before .before .before .both .ensures) (c .before .before .before .before .before .before .before .asked .ensures) (c .before .before .before .before .enum-told .given .1) (c .before .before .accept .ensures)
 
 returns-2 : tie.Need-returns-2
 returns-2 c =
-    let a = c .before .before .before .before .before .before .args in
-    plain (requestsOf (a .kept)) (a .method) (c .if1 .left) (c .before .before .before .greet .ensures)
+    let start = c .before .before .before .before .before .before .before .before .before .before .before .before .before in
+    let a = start .args in
+    refuses5 (a .config) (a .host .now) (a .read) (a .port) (a .user .now) (a .password .now) (a .chosen) (a .room) (c .before .before .before .before .before .before .before .before .strip-ipv6-brackets .ensures) (c .before .before .before .before .check5 .ensures)
+    (c .before .before .answer .given .1) (c .refuse .ensures) (start .pre)
 
 pub begin-spec : {M : Type 1} → statement M
 begin-spec =
-    tie.close (tie.spec greet-requires follow-requires same-length returns same-length-2 returns-2)
+    tie.close
+    (tie.spec
+    strip-ipv6-brackets-requires
+    both-requires
+    asked-requires
+    check5-requires
+    enum-told
+    accept-requires
+    enum-known-answer
+    refuse-requires
+    same-length
+    returns
+    returns-2)

@@ -1,44 +1,62 @@
-use mathlib.Core.Path.{sym, subst}
+use Prim.Native.Nat.{ℕ, _+_, _≤_}
+use native.Mathlib.Omega.{arith}
+use mathlib.Core.Path.{_≡_}
 use mathlib.Core.List.{List}
-use Prim.Native.Nat.{ℕ, _≤_}
-use lib.ListN.{length}
-use Rattle.lookup.specs.Chosen.{recordsOf}
-use Rattle.protocol.specs.Opening.{V5}
-use Rattle.openings.proofs.Accepting.{keeps5}
+use lib.ListN.{length, replicate}
+use Rattle.openings.specs.Asked.{target5}
+use Rattle.openings.proofs.KeptBy.{zeros-size}
+use Rattle.openings_v5.proofs.Keeping.{room-second, room-third, keeps5}
 use borrow.Author.Needs.{needs}
 use Rattle.openings_v5.proofs.keep.Statement.{statement}
 use Rattle.openings_v5.proofs.keep.Tie as tie
 
-port-number-requires : tie.Need-port-number-requires
-port-number-requires c κs = search needs
+room-first : {bs : List ℕ} → bs ≡ replicate 1024 0 → 0 + 3 ≤ length bs
+room-first z = omega (arith, zeros-size z)
 
-asked-requires : tie.Need-asked-requires
-asked-requires c κs = search needs
+method-of-requires : tie.Need-method-of-requires
+method-of-requires c κs = search needs
 
-credential-requires : tie.Need-credential-requires
-credential-requires c κs = search needs
+put-negotiation-req-requires : tie.Need-put-negotiation-req-requires
+put-negotiation-req-requires c κs = room-first (c .before .before .before .before .before .before .pre .0)
 
-credential-requires-2 : tie.Need-credential-requires-2
-credential-requires-2 c κs = search needs
+put-authentication-requires : tie.Need-put-authentication-requires
+put-authentication-requires c κs =
+    let p = c .before .before .before .before .before .before .before .before .before .before .pre in
+    (p .1 .credentials, room-second (c .before .before .before .before .method-of .result) (p .0) (c .before .before .before .put-negotiation-req .ensures))
 
-keep-requires : tie.Need-keep-requires
-keep-requires c κs =
-    let p = c .before .before .before .before .before .before .before .pre in
-    (subst (λ (l : List ℕ). length l ≤ 255) (sym (c .before .credential .ensures)) (p .user), subst (λ (l : List ℕ). length l ≤ 255) (sym (c .credential2 .ensures)) (p .password))
+put-proxy-requires : tie.Need-put-proxy-requires
+put-proxy-requires c κs =
+    let start = c .before .before .before .before .before .before .before .before .before .before .before .before .before .before in
+    let a = start .args in
+    let p = start .pre in
+    (p .1 .name, room-third (c .before .before .before .before .before .before .before .before .method-of .result) (p .0) (c .before .before .before .before .before .before .before .put-negotiation-req .ensures) (a .config .«proxy_auth») (a .user .now) (a .password .now) (c .before .before .before .put-authentication .ensures) (p .1 .credentials))
+
+sub-t18 : tie.Need-sub-t18
+sub-t18 c = search needs
+
+sub-t19 : tie.Need-sub-t19
+sub-t19 c = search needs
+
+same-length : tie.Need-same-length
+same-length c = search needs
 
 returns : tie.Need-returns
 returns c =
-    let a = c .before .before .before .before .before .before .before .before .args in
-    let v : V5 = record { config = a .config; host = a .host .now; port = a .port; user = a .user .now; password = a .password .now; records = recordsOf (a .chosen) } in
-    keeps5 v (c .keep .ensures) (c .before .before .before .asked .ensures) (c .before .before .before .before .port-number .ensures) (c .before .before .credential .ensures) (c .before .credential2 .ensures)
+    let start = c .before .before .before .before .before .before .before .before .before .before .before .before .before .before .before .before .before in
+    let a = start .args in
+    let m = c .before .before .before .before .before .before .before .before .before .before .before .method-of in
+    keeps5 (m .result) (start .pre .0) (c .before .before .before .before .before .before .before .before .before .before .put-negotiation-req .ensures) (a .config .«proxy_auth») (a .user .now) (a .password .now) (c .before .before .before .before .before .before .put-authentication .ensures) (m .ensures)
+    (target5 (a .asked) (a .text .now)) (a .port) (a .config .optimistic) (c .before .before .put-proxy .ensures)
 
 pub keep-spec : {M : Type 1} → statement M
 keep-spec =
     tie.close
     (tie.spec
-    port-number-requires
-    asked-requires
-    credential-requires
-    credential-requires-2
-    keep-requires
+    method-of-requires
+    put-negotiation-req-requires
+    put-authentication-requires
+    put-proxy-requires
+    sub-t18
+    sub-t19
+    same-length
     returns)

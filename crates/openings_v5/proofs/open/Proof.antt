@@ -1,4 +1,4 @@
--- `v5::open` meets its contract: a walk of its MIR, by hand. How many records are wanted, which of them is chosen, then the opening with that one.
+-- `v5::open` meets its contract: a walk of its MIR, by hand. What the host is, how many records are wanted, which of them is chosen, then the opening with that one.
 -- What is Copy is had once for each call and once for the exit; the output's borrow goes to the callee at its own lifetime, and is not needed after it.
 use mathlib.Core.Path.{_≡_, refl}
 use mathlib.Core.Bool.{false, cond}
@@ -16,7 +16,7 @@ use prog.Wp.{Heap, Calls, Loops, WpFn, Tables}
 use ghost.Atoms.{Atoms, sem}
 use contract.Monad.{Fun, fact}
 use contract.Running.{givenOf, tables, tablesOf}
-use types.Kit.{Given, Item, ‵, raw, _⊛_, ⋆, some, later, _$_, _∵_, !, qed, by, move, keep, drop, use1, use2, use3, split, join, pick, fsplit, fjoin, feqI, feqL, suffices, frame, await, done}
+use types.Kit.{Given, Item, ‵, raw, _⊛_, ⋆, some, later, _$_, _∵_, !, qed, by, move, keep, drop, use1, use2, split, join, pick, fsplit, fjoin, feqI, feqL, suffices, frame, await, done}
 use types.Part.{agg, whole, sub, look-in}
 use types.Run.{look, init, forget, stop, hop, fld, from, load, false-lit, addr, and-then, no-more, assigns, land, returns, enter, alloc1, alloc0, params1, pass1, pass0, free1, free0}
 use sound.WpLaws.{FmC, fmOf, WpFn-mono}
@@ -41,11 +41,17 @@ use denote.Exit.{yes}
 use Rattle.protocol.specs.declared.Record.{Record}
 use Rattle.protocol.specs.declared.Port.{Port}
 use Rattle.protocol.specs.declared.SocksConfig.{SocksConfig}
+use Rattle.protocol.specs.Host.{strip}
+use Rattle.protocol.specs.AddressReading.{destinationOf}
 use Rattle.protocol.proofs.Record as T
 use Rattle.protocol.proofs.SocksConfig as Cfg
 use Rattle.protocol.proofs.SocksConfig.Laws as Cfg′
 use Rattle.protocol.proofs.Port as Prt
 use Rattle.protocol.proofs.Port.Laws as Prt′
+use Rattle.addresses.specs.declared.AddressText.{AddressText}
+use Rattle.addresses.specs.Answers.{addressText}
+use Rattle.addresses.proofs.AddressText as Adr
+use Rattle.addresses.proofs.AddressText.Laws as Adr′
 use Rattle.lookup.specs.declared.Lookup.{Lookup}
 use Rattle.lookup.specs.Chosen.{noneFound, chosenOf, recordsOf}
 use Rattle.lookup.proofs.Lookup as S
@@ -60,6 +66,10 @@ use Rattle.session.specs.Calls.{Opens, open5}
 use Rattle.openings.proofs.Records.{by-list5}
 use Rattle.session.proofs.Opened as O
 use Rattle.session.proofs.Opened.Laws as O′
+use Rattle.checks.proofs.lookups.read_host as reading
+use Rattle.checks.proofs.lookups.read_host.Symbol as reading-def
+use Rattle.checks.proofs.lookups.read_host.Symbol.{name as #reading}
+use Rattle.checks.proofs.lookups.read_host.Met as reading-thm
 use Rattle.checks.proofs.lookups.wanted5 as wanted
 use Rattle.checks.proofs.lookups.wanted5.Symbol as wanted-def
 use Rattle.checks.proofs.lookups.wanted5.Symbol.{name as #wanted}
@@ -82,6 +92,9 @@ C = Cfg.the-row
 abbrev P : RattleType
 P = Prt.the-row
 
+abbrev D : RattleType
+D = Adr.the-row
+
 abbrev Q : RattleType
 Q = S.the-row
 
@@ -92,6 +105,9 @@ abbrev stayed : Stays (open′.ended .signature .params) (open′.ended .kept)
 stayed = (stay-none (λ _. C) yes, (stay-none-slice (0 ∷ []) tt (plain (λ _. u8)) yes, (stay-none (λ _. P) yes, (stay-none-slice (1 ∷ []) tt (plain (λ _. u8)) yes, (stay-none-slice (2 ∷ []) tt (plain (λ _. u8)) yes, (stay-none-slice (3 ∷ []) tt (plain (λ _. R)) yes, (gave-slice (4 ∷ []) tt (plain (λ _. u8)), tt)))))))
 
 module _ {M : Type 1} (𝓤 : URA M) (H : Heap 𝓤) (A : Atoms 𝓤) (mem : Memory → SProp 𝓤) (run : Routine → Fun 𝓤) where
+  abbrev Reading : Contract 𝓤
+  Reading = tripleOf 𝓤 H A reading.signature (reading.spec 𝓤 H A mem run)
+
   abbrev Wanted : Contract 𝓤
   Wanted = tripleOf 𝓤 H A wanted.signature (wanted.spec 𝓤 H A mem run)
 
@@ -155,49 +171,57 @@ module _ {M : Type 1} (𝓤 : URA M) (H : Heap 𝓤) (A : Atoms 𝓤) (W : Given
   Post = walkOf 𝓤 H A open′.ended stayed (open′.clauses 𝓤 H A mem run) .post (((κ₁, (κ₂, (κ₃, (κ₄, (κ₅, tt))))), (q₁, (q₂, (q₃, (q₄, (q₅, tt))))), tt, x, at), tt)
 
   -- what the callees are passed
-  abbrev to-wanted : Wanted 𝓤 H A mem run .Ghost
-  to-wanted = (((κ₁, tt), (q₁, tt), tt, (cf, (hs, tt)), (cv ∷ [], (hv ∷ [], tt))), tt)
+  abbrev to-reading : Reading 𝓤 H A mem run .Ghost
+  to-reading = (((κ₁, tt), (q₁, tt), tt, (hs, tt), (hv ∷ [], tt)), tt)
+
+  abbrev to-wanted : AddressText → Val → Wanted 𝓤 H A mem run .Ghost
+  to-wanted d a = (((κ₁, tt), (q₁, tt), tt, (cf, (hs, (d, tt))), (cv ∷ [], (hv ∷ [], (a ∷ [], tt)))), tt)
 
   abbrev to-choose : ℕ → Val → Choose 𝓤 H A mem run .Ghost
   to-choose m u = (((κ₄, tt), (q₄, tt), tt, (rs, (m, (false, tt))), (rv ∷ [], (u ∷ [], (vbool false ∷ [], tt)))), tt)
 
-  abbrev passed : Lookup → SocksConfig × (RefT (List ℕ) × (Port × (RefT (List ℕ) × (RefT (List ℕ) × (Lookup × (RefT (List ℕ) × Unit {0}))))))
-  passed c = (cf, (hs, (pt, (us, (ps, (c, (os, tt)))))))
+  abbrev passed : AddressText → Lookup → SocksConfig × (RefT (List ℕ) × (AddressText × (Port × (RefT (List ℕ) × (RefT (List ℕ) × (Lookup × (RefT (List ℕ) × Unit {0})))))))
+  passed d c = (cf, (hs, (d, (pt, (us, (ps, (c, (os, tt))))))))
 
-  abbrev to-core : Lookup → Val → Core 𝓤 H A mem run .Ghost
-  to-core c w = (((κ₁, (κ₂, (κ₃, (κ₅, tt)))), (q₁, (q₂, (q₃, (q₅, tt)))), tt, passed c, (cv ∷ [], (hv ∷ [], (pv ∷ [], (uv ∷ [], (wv ∷ [], (w ∷ [], (ov ∷ [], tt)))))))), tt)
+  abbrev to-core : AddressText → Val → Lookup → Val → Core 𝓤 H A mem run .Ghost
+  to-core d a c w = (((κ₁, (κ₂, (κ₃, (κ₅, tt)))), (q₁, (q₂, (q₃, (q₅, tt)))), tt, passed d c, (cv ∷ [], (hv ∷ [], (a ∷ [], (pv ∷ [], (uv ∷ [], (wv ∷ [], (w ∷ [], (ov ∷ [], tt))))))))), tt)
 
-  goes-wanted : ent 𝓤 (⋆ 𝓤 H A (‵ (flft κ₁ q₁) ∷ ‵ Config ∷ ‵ Host ∷ [])) (Wanted 𝓤 H A mem run .pre to-wanted)
-  goes-wanted =
-      qed W (‵ (flft κ₁ q₁) ∷ ‵ Config ∷ ‵ Host ∷ []) ∵
-      nothing ! $ move ! (1 ∷ 0 ∷ []) $ join ! $ nothing ! $ move ! (3 ∷ 0 ∷ []) $ fjoin ! $ move ! (2 ∷ 0 ∷ []) $ fjoin ! $ move ! (1 ∷ 0 ∷ []) $ join ! $ frame ! $ done !
+  goes-reading : ent 𝓤 (⋆ 𝓤 H A (‵ (flft κ₁ q₁) ∷ ‵ Host ∷ [])) (Reading 𝓤 H A mem run .pre to-reading)
+  goes-reading =
+      qed W (‵ (flft κ₁ q₁) ∷ ‵ Host ∷ []) ∵
+      nothing ! $ move ! (1 ∷ 0 ∷ []) $ join ! $ nothing ! $ move ! (2 ∷ 0 ∷ []) $ fjoin ! $ move ! (1 ∷ 0 ∷ []) $ join ! $ frame ! $ done !
+
+  goes-wanted : (d : AddressText) (a : Val) → ent 𝓤 (⋆ 𝓤 H A (‵ (flft κ₁ q₁) ∷ ‵ Config ∷ ‵ Host ∷ ‵ (D .own d (a ∷ [])) ∷ [])) (Wanted 𝓤 H A mem run .pre (to-wanted d a))
+  goes-wanted d a =
+      qed W (‵ (flft κ₁ q₁) ∷ ‵ Config ∷ ‵ Host ∷ ‵ (D .own d (a ∷ [])) ∷ []) ∵
+      nothing ! $ move ! (1 ∷ 0 ∷ []) $ join ! $ nothing ! $ move ! (4 ∷ 0 ∷ []) $ fjoin ! $ move ! (3 ∷ 0 ∷ []) $ fjoin ! $ move ! (2 ∷ 0 ∷ []) $ fjoin ! $ move ! (1 ∷ 0 ∷ []) $ join ! $ frame ! $ done !
 
   goes-choose : (m : ℕ) (u : Val) → ent 𝓤 (⋆ 𝓤 H A (‵ (flft κ₄ q₄) ∷ ‵ Records ∷ ‵ (usize .own m (u ∷ [])) ∷ ‵ (bool .own false (vbool false ∷ [])) ∷ [])) (Choose 𝓤 H A mem run .pre (to-choose m u))
   goes-choose m u =
       qed W (‵ (flft κ₄ q₄) ∷ ‵ Records ∷ ‵ (usize .own m (u ∷ [])) ∷ ‵ (bool .own false (vbool false ∷ [])) ∷ []) ∵
       nothing ! $ move ! (1 ∷ 0 ∷ []) $ join ! $ nothing ! $ move ! (4 ∷ 0 ∷ []) $ fjoin ! $ move ! (3 ∷ 0 ∷ []) $ fjoin ! $ move ! (2 ∷ 0 ∷ []) $ fjoin ! $ move ! (1 ∷ 0 ∷ []) $ join ! $ frame ! $ done !
 
-  goes-core : (c : Lookup) (w : Val) → ent 𝓤 (⋆ 𝓤 H A (‵ (flft κ₁ q₁) ∷ ‵ (flft κ₂ q₂) ∷ ‵ (flft κ₃ q₃) ∷ ‵ (flft κ₅ q₅) ∷ ‵ Config ∷ ‵ Host ∷ ‵ Its-port ∷ ‵ User ∷ ‵ Password ∷ ‵ (Q .own c (w ∷ [])) ∷ ‵ Out ∷ [])) (Core 𝓤 H A mem run .pre (to-core c w))
-  goes-core c w =
-      qed W (‵ (flft κ₁ q₁) ∷ ‵ (flft κ₂ q₂) ∷ ‵ (flft κ₃ q₃) ∷ ‵ (flft κ₅ q₅) ∷ ‵ Config ∷ ‵ Host ∷ ‵ Its-port ∷ ‵ User ∷ ‵ Password ∷ ‵ (Q .own c (w ∷ [])) ∷ ‵ Out ∷ []) ∵
-      nothing ! $ move ! (4 ∷ 0 ∷ []) $ join ! $ move ! (3 ∷ 0 ∷ []) $ join ! $ move ! (2 ∷ 0 ∷ []) $ join ! $ move ! (1 ∷ 0 ∷ []) $ join ! $ nothing ! $ move ! (8 ∷ 0 ∷ []) $ fjoin ! $ move ! (7 ∷ 0 ∷ []) $ fjoin ! $ move ! (6 ∷ 0 ∷ []) $ fjoin ! $ move ! (5 ∷ 0 ∷ []) $ fjoin ! $ move ! (4 ∷ 0 ∷ []) $ fjoin ! $ move ! (3 ∷ 0 ∷ []) $ fjoin ! $ move ! (2 ∷ 0 ∷ []) $ fjoin ! $ move ! (1 ∷ 0 ∷ []) $ join ! $ frame ! $ done !
+  goes-core : (d : AddressText) (a : Val) (c : Lookup) (w : Val) → ent 𝓤 (⋆ 𝓤 H A (‵ (flft κ₁ q₁) ∷ ‵ (flft κ₂ q₂) ∷ ‵ (flft κ₃ q₃) ∷ ‵ (flft κ₅ q₅) ∷ ‵ Config ∷ ‵ Host ∷ ‵ (D .own d (a ∷ [])) ∷ ‵ Its-port ∷ ‵ User ∷ ‵ Password ∷ ‵ (Q .own c (w ∷ [])) ∷ ‵ Out ∷ [])) (Core 𝓤 H A mem run .pre (to-core d a c w))
+  goes-core d a c w =
+      qed W (‵ (flft κ₁ q₁) ∷ ‵ (flft κ₂ q₂) ∷ ‵ (flft κ₃ q₃) ∷ ‵ (flft κ₅ q₅) ∷ ‵ Config ∷ ‵ Host ∷ ‵ (D .own d (a ∷ [])) ∷ ‵ Its-port ∷ ‵ User ∷ ‵ Password ∷ ‵ (Q .own c (w ∷ [])) ∷ ‵ Out ∷ []) ∵
+      nothing ! $ move ! (4 ∷ 0 ∷ []) $ join ! $ move ! (3 ∷ 0 ∷ []) $ join ! $ move ! (2 ∷ 0 ∷ []) $ join ! $ move ! (1 ∷ 0 ∷ []) $ join ! $ nothing ! $ move ! (9 ∷ 0 ∷ []) $ fjoin ! $ move ! (8 ∷ 0 ∷ []) $ fjoin ! $ move ! (7 ∷ 0 ∷ []) $ fjoin ! $ move ! (6 ∷ 0 ∷ []) $ fjoin ! $ move ! (5 ∷ 0 ∷ []) $ fjoin ! $ move ! (4 ∷ 0 ∷ []) $ fjoin ! $ move ! (3 ∷ 0 ∷ []) $ fjoin ! $ move ! (2 ∷ 0 ∷ []) $ fjoin ! $ move ! (1 ∷ 0 ∷ []) $ join ! $ frame ! $ done !
 
   -- what the parameters own, once for each call and once for the exit
   abbrev Owned : List (Item 𝓤)
-  Owned = ‵ (flft κ₁ q₁) ∷ ‵ (flft κ₂ q₂) ∷ ‵ (flft κ₃ q₃) ∷ ‵ (flft κ₄ q₄) ∷ ‵ (flft κ₅ q₅) ∷ ‵ Config ∷ ‵ Config ∷ ‵ Config ∷ ‵ Host ∷ ‵ Host ∷ ‵ Host ∷ ‵ Its-port ∷ ‵ Its-port ∷ ‵ User ∷ ‵ User ∷ ‵ Password ∷ ‵ Password ∷ ‵ Records ∷ ‵ Records ∷ ‵ Out ∷ []
+  Owned = ‵ (flft κ₁ q₁) ∷ ‵ (flft κ₂ q₂) ∷ ‵ (flft κ₃ q₃) ∷ ‵ (flft κ₄ q₄) ∷ ‵ (flft κ₅ q₅) ∷ ‵ Config ∷ ‵ Config ∷ ‵ Config ∷ ‵ Host ∷ ‵ Host ∷ ‵ Host ∷ ‵ Host ∷ ‵ Its-port ∷ ‵ Its-port ∷ ‵ User ∷ ‵ User ∷ ‵ Password ∷ ‵ Password ∷ ‵ Records ∷ ‵ Records ∷ ‵ Out ∷ []
 
   apart : ent 𝓤 (onEntry 𝓤 H A open′.signature (κ₁, (κ₂, (κ₃, (κ₄, (κ₅, tt))))) (q₁, (q₂, (q₃, (q₄, (q₅, tt))))) x at) (⋆ 𝓤 H A Owned)
   apart =
       qed W ((‵ (flft κ₁ q₁) ⊛ (‵ (flft κ₂ q₂) ⊛ (‵ (flft κ₃ q₃) ⊛ (‵ (flft κ₄ q₄) ⊛ (‵ (flft κ₅ q₅) ⊛ ‵ ftrue))))) ∷ ‵ (owns (C ∷ ShrSlice (named 0) κ₁ u8 ∷ P ∷ ShrSlice (named 1) κ₂ u8 ∷ ShrSlice (named 2) κ₃ u8 ∷ ShrSlice (named 3) κ₄ R ∷ MutSlice (named 4) κ₅ u8 ∷ []) x at) ∷ []) ∵
       split ! $ move ! (1 ∷ []) $ split ! $ move ! (1 ∷ []) $ split ! $ move ! (1 ∷ []) $ split ! $ move ! (1 ∷ []) $ split ! $ move ! (6 ∷ []) $
       fsplit ! $ use1 W (‵ Config ⊛ ‵ Config) (LL.copy Cfg.the-type Cfg′.the-copy 𝓤 H A W .twice cf (cv ∷ [])) $ split ! $ use1 W (‵ Config ⊛ ‵ Config) (LL.copy Cfg.the-type Cfg′.the-copy 𝓤 H A W .twice cf (cv ∷ [])) $ split ! $
-      move ! (3 ∷ []) $ fsplit ! $ use1 W (‵ Host ⊛ ‵ Host) (shr-slice-copy 𝓤 H A W (named 0) κ₁ u8 .twice hs (hv ∷ [])) $ split ! $ use1 W (‵ Host ⊛ ‵ Host) (shr-slice-copy 𝓤 H A W (named 0) κ₁ u8 .twice hs (hv ∷ [])) $ split ! $
-      move ! (3 ∷ []) $ fsplit ! $ use1 W (‵ Its-port ⊛ ‵ Its-port) (EL.copy Prt.the-type Prt′.the-copy 𝓤 H A W .twice pt (pv ∷ [])) $ split ! $
+      move ! (3 ∷ []) $ fsplit ! $ use1 W (‵ Host ⊛ ‵ Host) (shr-slice-copy 𝓤 H A W (named 0) κ₁ u8 .twice hs (hv ∷ [])) $ split ! $ use1 W (‵ Host ⊛ ‵ Host) (shr-slice-copy 𝓤 H A W (named 0) κ₁ u8 .twice hs (hv ∷ [])) $ split ! $ use1 W (‵ Host ⊛ ‵ Host) (shr-slice-copy 𝓤 H A W (named 0) κ₁ u8 .twice hs (hv ∷ [])) $ split ! $
+      move ! (4 ∷ []) $ fsplit ! $ use1 W (‵ Its-port ⊛ ‵ Its-port) (EL.copy Prt.the-type Prt′.the-copy 𝓤 H A W .twice pt (pv ∷ [])) $ split ! $
       move ! (2 ∷ []) $ fsplit ! $ use1 W (‵ User ⊛ ‵ User) (shr-slice-copy 𝓤 H A W (named 1) κ₂ u8 .twice us (uv ∷ [])) $ split ! $
       move ! (2 ∷ []) $ fsplit ! $ use1 W (‵ Password ⊛ ‵ Password) (shr-slice-copy 𝓤 H A W (named 2) κ₃ u8 .twice ps (wv ∷ [])) $ split ! $
       move ! (2 ∷ []) $ fsplit ! $ use1 W (‵ Records ⊛ ‵ Records) (shr-slice-copy 𝓤 H A W (named 3) κ₄ R .twice rs (rv ∷ [])) $ split ! $
       move ! (2 ∷ []) $ fsplit ! $
-      keep ! (21 ∷ 20 ∷ 19 ∷ 18 ∷ 16 ∷ 13 ∷ 14 ∷ 15 ∷ 10 ∷ 11 ∷ 12 ∷ 8 ∷ 9 ∷ 6 ∷ 7 ∷ 4 ∷ 5 ∷ 2 ∷ 3 ∷ 0 ∷ []) $ done !
+      keep ! (22 ∷ 21 ∷ 20 ∷ 19 ∷ 17 ∷ 14 ∷ 15 ∷ 16 ∷ 10 ∷ 11 ∷ 12 ∷ 13 ∷ 8 ∷ 9 ∷ 6 ∷ 7 ∷ 4 ∷ 5 ∷ 2 ∷ 3 ∷ 0 ∷ []) $ done !
 
   exits : (r : Opened) (v : Val) (zs : List ℕ) → Opens (open5 (record { config = cf; host = hs .now; port = pt; user = us .now; password = ps .now; records = rs .now }) (os .now)) r zs → length zs ≡ length (os .now)
       → ent 𝓤 (⋆ 𝓤 H A (‵ (flft κ₁ q₁) ∷ ‵ (flft κ₂ q₂) ∷ ‵ (flft κ₃ q₃) ∷ ‵ (flft κ₄ q₄) ∷ ‵ (flft κ₅ q₅) ∷ ‵ Config ∷ ‵ Host ∷ ‵ Its-port ∷ ‵ User ∷ ‵ Password ∷ ‵ Records ∷ ‵ (finally u8 (os .name) zs) ∷ ‵ (Result .own r (v ∷ [])) ∷ [])) (Post v)
@@ -207,77 +231,95 @@ module _ {M : Type 1} (𝓤 : URA M) (H : Heap 𝓤) (A : Atoms 𝓤) (W : Given
       nothing ! $ move ! (5 ∷ 0 ∷ []) $ join ! $ move ! (4 ∷ 0 ∷ []) $ join ! $ move ! (3 ∷ 0 ∷ []) $ join ! $ move ! (2 ∷ 0 ∷ []) $ join ! $ move ! (1 ∷ 0 ∷ []) $ join ! $
       nothing ! $ move ! (8 ∷ 0 ∷ []) $ fjoin ! $ move ! (7 ∷ 0 ∷ []) $ fjoin ! $ move ! (6 ∷ 0 ∷ []) $ fjoin ! $ move ! (5 ∷ 0 ∷ []) $ fjoin ! $ move ! (4 ∷ 0 ∷ []) $ fjoin ! $ move ! (3 ∷ 0 ∷ []) $ fjoin ! $ move ! (2 ∷ 0 ∷ []) $ fjoin ! $ move ! (1 ∷ 0 ∷ []) $ frame ! $ frame ! $ done !
 
-  said-wanted : (m : ℕ) → ent 𝓤 (ensured 𝓤 H A wanted.ended (wanted.clauses 𝓤 H A mem run) (κ₁, tt) (cf, (hs, tt)) tt m) (fact 𝓤 (m ≡ cond (looksUp (cf .«local_dns») (hs .now) 255) 1 0))
-  said-wanted m = exE 𝓤 _ (λ ws. snd∗ 𝓤 (sem 𝓤 H A (lasts wanted.ended (κ₁, tt) (cf, (hs, tt)) ws)) (fact 𝓤 (m ≡ cond (looksUp (cf .«local_dns») (hs .now) 255) 1 0)))
+  -- what the first two calls say
+  abbrev Reads : AddressText → Type 0
+  Reads d = d ≡ addressText (destinationOf (strip (hs .now)))
+
+  abbrev Wants : AddressText → ℕ → Type 0
+  Wants d m = Reads d → m ≡ cond (looksUp (cf .«local_dns») (hs .now) 255) 1 0
+
+  said-reading : (d : AddressText) → ent 𝓤 (ensured 𝓤 H A reading.ended (reading.clauses 𝓤 H A mem run) (κ₁, tt) (hs, tt) tt d) (fact 𝓤 (Reads d))
+  said-reading d = exE 𝓤 _ (λ ws. snd∗ 𝓤 (sem 𝓤 H A (lasts reading.ended (κ₁, tt) (hs, tt) ws)) (fact 𝓤 (Reads d)))
+
+  said-wanted : (d : AddressText) (m : ℕ) → ent 𝓤 (ensured 𝓤 H A wanted.ended (wanted.clauses 𝓤 H A mem run) (κ₁, tt) (cf, (hs, (d, tt))) tt m) (fact 𝓤 (Wants d m))
+  said-wanted d m = exE 𝓤 _ (λ ws. snd∗ 𝓤 (sem 𝓤 H A (lasts wanted.ended (κ₁, tt) (cf, (hs, (d, tt))) ws)) (fact 𝓤 (Wants d m)))
 
   said-choose : (m : ℕ) (c : Lookup) → ent 𝓤 (ensured 𝓤 H A choose.ended (choose.clauses 𝓤 H A mem run) (κ₄, tt) (rs, (m, (false, tt))) tt c) (fact 𝓤 (c ≡ chosenOf false noneFound (take m (rs .now))))
   said-choose m c = exE 𝓤 _ (λ ws. snd∗ 𝓤 (sem 𝓤 H A (lasts choose.ended (κ₄, tt) (rs, (m, (false, tt))) ws)) (fact 𝓤 (c ≡ chosenOf false noneFound (take m (rs .now)))))
 
-  module _ (𝓒 : Calls 𝓤 H) (Λ : Loops 𝓤 H) (fm : FmC 𝓤 H (W .laws) 𝓒) (known-wanted : Triple 𝓤 (𝓒 #wanted) (Wanted 𝓤 H A mem run)) (known-choose : Triple 𝓤 (𝓒 #choose) (Choose 𝓤 H A mem run)) (known-core : Triple 𝓤 (𝓒 #core) (Core 𝓤 H A mem run)) where
+  module _ (𝓒 : Calls 𝓤 H) (Λ : Loops 𝓤 H) (fm : FmC 𝓤 H (W .laws) 𝓒) (known-reading : Triple 𝓤 (𝓒 #reading) (Reading 𝓤 H A mem run)) (known-wanted : Triple 𝓤 (𝓒 #wanted) (Wanted 𝓤 H A mem run)) (known-choose : Triple 𝓤 (𝓒 #choose) (Choose 𝓤 H A mem run)) (known-core : Triple 𝓤 (𝓒 #core) (Core 𝓤 H A mem run)) where
     walk : Is C cf (cv ∷ []) → Room u8 (length (hs .now)) → Is P pt (pv ∷ []) → Room u8 (length (us .now)) → Room u8 (length (ps .now)) → Room R (length (rs .now)) → Room u8 (length (os .now))
         → ent 𝓤 (⋆ 𝓤 H A Owned) (WpFn 𝓤 H 𝓒 Λ code.function (cv ∷ hv ∷ pv ∷ uv ∷ wv ∷ rv ∷ ov ∷ []) Post)
     walk gc gh gp gu gw gr go =
         qed W Owned ∵ enter ! 𝓒 Λ code.function (cv ∷ hv ∷ pv ∷ uv ∷ wv ∷ rv ∷ ov ∷ []) _ $
-        alloc1 ! (λ l0. alloc1 ! (λ l1. alloc1 ! (λ l2. alloc1 ! (λ l3. alloc1 ! (λ l4. alloc1 ! (λ l5. alloc1 ! (λ l6. alloc1 ! (λ l7. alloc1 ! (λ l8. alloc1 ! (λ l9. alloc1 ! (λ l10. alloc1 ! (λ l11. alloc0 ! $ params1 ! $
-        pass1 ! (init ! 20 refl (LL.lawful Cfg.the-type Cfg′.the-laws 𝓤 H A W .typed cf (cv ∷ []) gc .0)) $
-        pass1 ! (init ! 18 refl (tt, (tt, (record { fits = gh .0 }, tt)))) $
-        pass1 ! (init ! 16 refl (EL.lawful Prt.the-type Prt′.the-laws 𝓤 H A W tt .typed pt (pv ∷ []) gp .0)) $
-        pass1 ! (init ! 14 refl (tt, (tt, (record { fits = gu .0 }, tt)))) $
-        pass1 ! (init ! 12 refl (tt, (tt, (record { fits = gw .0 }, tt)))) $
-        pass1 ! (init ! 10 refl (tt, (tt, (record { fits = gr .0 }, tt)))) $
-        pass1 ! (init ! 8 refl (tt, (tt, (record { fits = go .0 }, tt)))) $
+        alloc1 ! (λ l0. alloc1 ! (λ l1. alloc1 ! (λ l2. alloc1 ! (λ l3. alloc1 ! (λ l4. alloc1 ! (λ l5. alloc1 ! (λ l6. alloc1 ! (λ l7. alloc1 ! (λ l8. alloc1 ! (λ l9. alloc1 ! (λ l10. alloc1 ! (λ l11. alloc1 ! (λ l12. alloc0 ! $ params1 ! $
+        pass1 ! (init ! 22 refl (LL.lawful Cfg.the-type Cfg′.the-laws 𝓤 H A W .typed cf (cv ∷ []) gc .0)) $
+        pass1 ! (init ! 20 refl (tt, (tt, (record { fits = gh .0 }, tt)))) $
+        pass1 ! (init ! 18 refl (EL.lawful Prt.the-type Prt′.the-laws 𝓤 H A W tt .typed pt (pv ∷ []) gp .0)) $
+        pass1 ! (init ! 16 refl (tt, (tt, (record { fits = gu .0 }, tt)))) $
+        pass1 ! (init ! 14 refl (tt, (tt, (record { fits = gw .0 }, tt)))) $
+        pass1 ! (init ! 12 refl (tt, (tt, (record { fits = gr .0 }, tt)))) $
+        pass1 ! (init ! 10 refl (tt, (tt, (record { fits = go .0 }, tt)))) $
         pass0 ! $
+        -- what the host is
+        move ! (26 ∷ 34 ∷ []) $ use2 W (raw (Reading 𝓤 H A mem run .pre to-reading)) goes-reading $
+        calls-at ! fm (Reading 𝓤 H A mem run) known-reading to-reading (and-then ! (load ! (from ! (stop !)) (look ! 21 refl)) (no-more !)) (λ a.
+        use1 W (later (some (λ (d : AddressText). ((‵ (flft κ₁ q₁) ⊛ ‵ ftrue) ⊛ ‵ (D .own d (a ∷ []))) ⊛ raw (ensured 𝓤 H A reading.ended (reading.clauses 𝓤 H A mem run) (κ₁, tt) (hs, tt) tt d)))) (id⊢ 𝓤 _) $ await ! tt $ pick ! (λ d.
+        split ! $ move ! (1 ∷ []) $ use1 W (raw (fact 𝓤 (Reads d))) (said-reading d) $ heard ! (Reads d) (λ ed. split ! $ move ! (1 ∷ []) $
+        peeks ! D (Is D) (shows 𝓤 H A D) d (a ∷ []) (λ is.
+        land ! (from ! (stop !)) (init ! 10 refl (LL.lawful Adr.the-type Adr′.the-laws 𝓤 H A W .typed d _ is .0)) $
+        use1 W (‵ (D .own d (a ∷ [])) ⊛ ‵ (D .own d (a ∷ []))) (LL.copy Adr.the-type Adr′.the-copy 𝓤 H A W .twice d (a ∷ [])) $ split ! $
         -- how many records are wanted
-        move ! (24 ∷ 29 ∷ 32 ∷ []) $ use3 W (raw (Wanted 𝓤 H A mem run .pre to-wanted)) goes-wanted $
-        calls-at ! fm (Wanted 𝓤 H A mem run) known-wanted to-wanted (and-then ! (load ! (from ! (stop !)) (look ! 21 refl)) (and-then ! (load ! (from ! (stop !)) (look ! 19 refl)) (no-more !))) (λ u.
-        use1 W (later (some (λ (m : ℕ). ((‵ (flft κ₁ q₁) ⊛ ‵ ftrue) ⊛ ‵ (usize .own m (u ∷ []))) ⊛ raw (ensured 𝓤 H A wanted.ended (wanted.clauses 𝓤 H A mem run) (κ₁, tt) (cf, (hs, tt)) tt m)))) (id⊢ 𝓤 _) $ await ! tt $ pick ! (λ m.
-        split ! $ move ! (1 ∷ []) $ use1 W (raw (fact 𝓤 (m ≡ cond (looksUp (cf .«local_dns») (hs .now) 255) 1 0))) (said-wanted m) $ heard ! (m ≡ cond (looksUp (cf .«local_dns») (hs .now) 255) 1 0) (λ em. split ! $ move ! (1 ∷ []) $
-        peeks ! usize (Is usize) (shows 𝓤 H A usize) m (u ∷ []) (λ is.
-        land ! (from ! (stop !)) (init ! 8 refl (uint-lawful 𝓤 H A W w64 .typed m _ is .0)) $
+        move ! (2 ∷ []) $ split ! $ move ! (37 ∷ 2 ∷ []) $ join ! $ move ! (34 ∷ 0 ∷ []) $ join ! $ move ! (1 ∷ 0 ∷ []) $ use2 W (raw (Wanted 𝓤 H A mem run .pre (to-wanted d a))) (goes-wanted d a) $
+        calls-at ! fm (Wanted 𝓤 H A mem run) known-wanted (to-wanted d a) (and-then ! (load ! (from ! (stop !)) (look ! 25 refl)) (and-then ! (load ! (from ! (stop !)) (look ! 23 refl)) (and-then ! (load ! (from ! (stop !)) (look ! 11 refl)) (no-more !)))) (λ u.
+        use1 W (later (some (λ (m : ℕ). ((‵ (flft κ₁ q₁) ⊛ ‵ ftrue) ⊛ ‵ (usize .own m (u ∷ []))) ⊛ raw (ensured 𝓤 H A wanted.ended (wanted.clauses 𝓤 H A mem run) (κ₁, tt) (cf, (hs, (d, tt))) tt m)))) (id⊢ 𝓤 _) $ await ! tt $ pick ! (λ m.
+        split ! $ move ! (1 ∷ []) $ use1 W (raw (fact 𝓤 (Wants d m))) (said-wanted d m) $ heard ! (Wants d m) (λ em. split ! $ move ! (1 ∷ []) $
+        peeks ! usize (Is usize) (shows 𝓤 H A usize) m (u ∷ []) (λ is₁.
+        land ! (from ! (stop !)) (init ! 10 refl (uint-lawful 𝓤 H A W w64 .typed m _ is₁ .0)) $
         -- which of them is chosen
         feqI ! (List Val) (vbool false ∷ []) (vbool false ∷ []) refl $
-        move ! (1 ∷ 0 ∷ []) $ join ! $ move ! (40 ∷ 0 ∷ []) $ join ! $ move ! (28 ∷ 0 ∷ []) $ use2 W (raw (Choose 𝓤 H A mem run .pre (to-choose m u))) (goes-choose m u) $
-        calls-at ! fm (Choose 𝓤 H A mem run) known-choose (to-choose m u) (and-then ! (load ! (from ! (stop !)) (look ! 12 refl)) (and-then ! (load ! (from ! (stop !)) (look ! 8 refl)) (and-then ! (false-lit !) (no-more !)))) (λ w.
+        move ! (1 ∷ 0 ∷ []) $ join ! $ move ! (44 ∷ 0 ∷ []) $ join ! $ move ! (32 ∷ 0 ∷ []) $ use2 W (raw (Choose 𝓤 H A mem run .pre (to-choose m u))) (goes-choose m u) $
+        calls-at ! fm (Choose 𝓤 H A mem run) known-choose (to-choose m u) (and-then ! (load ! (from ! (stop !)) (look ! 16 refl)) (and-then ! (load ! (from ! (stop !)) (look ! 10 refl)) (and-then ! (false-lit !) (no-more !)))) (λ w.
         use1 W (later (some (λ (c : Lookup). ((‵ (flft κ₄ q₄) ⊛ ‵ ftrue) ⊛ ‵ (Q .own c (w ∷ []))) ⊛ raw (ensured 𝓤 H A choose.ended (choose.clauses 𝓤 H A mem run) (κ₄, tt) (rs, (m, (false, tt))) tt c)))) (id⊢ 𝓤 _) $ await ! tt $ pick ! (λ c.
         split ! $ move ! (1 ∷ []) $ use1 W (raw (fact 𝓤 (c ≡ chosenOf false noneFound (take m (rs .now))))) (said-choose m c) $ heard ! (c ≡ chosenOf false noneFound (take m (rs .now))) (λ ec. split ! $ move ! (1 ∷ []) $
         peeks ! Q (Is Q) (shows 𝓤 H A Q) c (w ∷ []) (λ is₂.
-        land ! (from ! (stop !)) (init ! 7 refl (LL.lawful S.the-type S′.the-laws 𝓤 H A W .typed c _ is₂ .0)) $
+        land ! (from ! (stop !)) (init ! 9 refl (LL.lawful S.the-type S′.the-laws 𝓤 H A W .typed c _ is₂ .0)) $
         -- the opening with it
-        assigns ! (addr ! (from ! (fld ! refl (hop ! (look-in ! 11 (sub ! 0 refl (whole !))) (stop !))))) (from ! (stop !)) (init ! 5 refl (tt, tt)) $
-        assigns ! (agg ! (and-then ! (load ! (from ! (stop !)) (look ! 5 refl)) (and-then ! (load ! (from ! (fld ! refl (stop !))) (look-in ! 11 (sub ! 1 refl (whole !)))) (no-more !)))) (from ! (stop !)) (init ! 3 refl (tt, (tt, (record { fits = go .0 }, tt)))) $
-        move ! (2 ∷ []) $ split ! $ move ! (2 ∷ 42 ∷ []) $ join ! $ move ! (39 ∷ 0 ∷ []) $ join ! $ move ! (37 ∷ 0 ∷ []) $ join ! $ move ! (35 ∷ 0 ∷ []) $ join ! $ move ! (33 ∷ 0 ∷ []) $ join ! $ move ! (31 ∷ 0 ∷ []) $ join ! $ move ! (30 ∷ 0 ∷ []) $ join ! $ move ! (29 ∷ 0 ∷ []) $ join ! $ move ! (28 ∷ 0 ∷ []) $ join ! $ move ! (1 ∷ 0 ∷ []) $
-        use2 W (raw (Core 𝓤 H A mem run .pre (to-core c w))) (goes-core c w) $
-        calls-at ! fm (Core 𝓤 H A mem run) known-core (to-core c w) (and-then ! (load ! (from ! (stop !)) (look ! 23 refl)) (and-then ! (load ! (from ! (stop !)) (look ! 21 refl)) (and-then ! (load ! (from ! (stop !)) (look ! 19 refl)) (and-then ! (load ! (from ! (stop !)) (look ! 17 refl)) (and-then ! (load ! (from ! (stop !)) (look ! 15 refl)) (and-then ! (load ! (from ! (stop !)) (look ! 7 refl)) (and-then ! (load ! (from ! (stop !)) (look ! 3 refl)) (no-more !)))))))) (λ v.
-        use1 W (later (some (λ (r : Opened). ((‵ (flft κ₁ q₁) ⊛ (‵ (flft κ₂ q₂) ⊛ (‵ (flft κ₃ q₃) ⊛ (‵ (flft κ₅ q₅) ⊛ ‵ ftrue)))) ⊛ ‵ (Result .own r (v ∷ []))) ⊛ raw (ensured 𝓤 H A core.ended (core.clauses 𝓤 H A mem run) (κ₁, (κ₂, (κ₃, (κ₅, tt)))) (passed c) tt r)))) (id⊢ 𝓤 _) $ await ! tt $ pick ! (λ r.
-        split ! $ move ! (1 ∷ []) $ use1 W (some (λ (zs : Unit {0} × (Unit {0} × (Unit {0} × (Unit {0} × (Unit {0} × (Unit {0} × (List ℕ × Unit {0}))))))). ‵ (lasts core.ended (κ₁, (κ₂, (κ₃, (κ₅, tt)))) (passed c) zs) ⊛ raw (fact 𝓤 (Opens (open5 (record { config = cf; host = hs .now; port = pt; user = us .now; password = ps .now; records = recordsOf c }) (os .now)) r (zs .1 .1 .1 .1 .1 .1 .0))))) (id⊢ 𝓤 _) $ pick ! (λ zs.
-        split ! $ move ! (1 ∷ []) $ heard ! (Opens (open5 (record { config = cf; host = hs .now; port = pt; user = us .now; password = ps .now; records = recordsOf c }) (os .now)) r (zs .1 .1 .1 .1 .1 .1 .0)) (λ e.
-        fsplit ! $ drop ! $ fsplit ! $ drop ! $ fsplit ! $ drop ! $ fsplit ! $ drop ! $ fsplit ! $ drop ! $ fsplit ! $ drop ! $ fsplit ! $ fsplit ! $ move ! (1 ∷ []) $ feqL ! (λ l.
+        assigns ! (addr ! (from ! (fld ! refl (hop ! (look-in ! 15 (sub ! 0 refl (whole !))) (stop !))))) (from ! (stop !)) (init ! 7 refl (tt, tt)) $
+        assigns ! (agg ! (and-then ! (load ! (from ! (stop !)) (look ! 7 refl)) (and-then ! (load ! (from ! (fld ! refl (stop !))) (look-in ! 15 (sub ! 1 refl (whole !)))) (no-more !)))) (from ! (stop !)) (init ! 5 refl (tt, (tt, (record { fits = go .0 }, tt)))) $
+        move ! (2 ∷ []) $ split ! $ move ! (2 ∷ 46 ∷ []) $ join ! $ move ! (43 ∷ 0 ∷ []) $ join ! $ move ! (41 ∷ 0 ∷ []) $ join ! $ move ! (39 ∷ 0 ∷ []) $ join ! $ move ! (5 ∷ 0 ∷ []) $ join ! $ move ! (36 ∷ 0 ∷ []) $ join ! $ move ! (34 ∷ 0 ∷ []) $ join ! $ move ! (33 ∷ 0 ∷ []) $ join ! $ move ! (32 ∷ 0 ∷ []) $ join ! $ move ! (31 ∷ 0 ∷ []) $ join ! $ move ! (1 ∷ 0 ∷ []) $
+        use2 W (raw (Core 𝓤 H A mem run .pre (to-core d a c w))) (goes-core d a c w) $
+        calls-at ! fm (Core 𝓤 H A mem run) known-core (to-core d a c w) (and-then ! (load ! (from ! (stop !)) (look ! 26 refl)) (and-then ! (load ! (from ! (stop !)) (look ! 24 refl)) (and-then ! (load ! (from ! (stop !)) (look ! 12 refl)) (and-then ! (load ! (from ! (stop !)) (look ! 22 refl)) (and-then ! (load ! (from ! (stop !)) (look ! 20 refl)) (and-then ! (load ! (from ! (stop !)) (look ! 18 refl)) (and-then ! (load ! (from ! (stop !)) (look ! 8 refl)) (and-then ! (load ! (from ! (stop !)) (look ! 4 refl)) (no-more !))))))))) (λ v.
+        use1 W (later (some (λ (r : Opened). ((‵ (flft κ₁ q₁) ⊛ (‵ (flft κ₂ q₂) ⊛ (‵ (flft κ₃ q₃) ⊛ (‵ (flft κ₅ q₅) ⊛ ‵ ftrue)))) ⊛ ‵ (Result .own r (v ∷ []))) ⊛ raw (ensured 𝓤 H A core.ended (core.clauses 𝓤 H A mem run) (κ₁, (κ₂, (κ₃, (κ₅, tt)))) (passed d c) tt r)))) (id⊢ 𝓤 _) $ await ! tt $ pick ! (λ r.
+        split ! $ move ! (1 ∷ []) $ use1 W (some (λ (zs : Unit {0} × (Unit {0} × (Unit {0} × (Unit {0} × (Unit {0} × (Unit {0} × (Unit {0} × (List ℕ × Unit {0})))))))). ‵ (lasts core.ended (κ₁, (κ₂, (κ₃, (κ₅, tt)))) (passed d c) zs) ⊛ raw (fact 𝓤 (Reads d → Opens (open5 (record { config = cf; host = hs .now; port = pt; user = us .now; password = ps .now; records = recordsOf c }) (os .now)) r (zs .1 .1 .1 .1 .1 .1 .1 .0))))) (id⊢ 𝓤 _) $ pick ! (λ zs.
+        split ! $ move ! (1 ∷ []) $ heard ! (Reads d → Opens (open5 (record { config = cf; host = hs .now; port = pt; user = us .now; password = ps .now; records = recordsOf c }) (os .now)) r (zs .1 .1 .1 .1 .1 .1 .1 .0)) (λ e.
+        fsplit ! $ drop ! $ fsplit ! $ drop ! $ fsplit ! $ drop ! $ fsplit ! $ drop ! $ fsplit ! $ drop ! $ fsplit ! $ drop ! $ fsplit ! $ drop ! $ fsplit ! $ fsplit ! $ move ! (1 ∷ []) $ feqL ! (λ l.
         move ! (2 ∷ []) $ split ! $ move ! (1 ∷ []) $ peeks ! Result (Is Result) (shows 𝓤 H A Result) r (v ∷ []) (λ is₃.
-        land ! (from ! (stop !)) (init ! 28 refl (LL.lawful O.the-type O′.the-laws 𝓤 H A W .typed r _ is₃ .0)) $
-        returns ! (look ! 28 refl) $ forget ! 6 refl $ forget ! 8 refl $ forget ! 10 refl $ forget ! 12 refl $ forget ! 14 refl $ forget ! 16 refl $ forget ! 18 refl $ forget ! 20 refl $ forget ! 22 refl $ forget ! 24 refl $ forget ! 26 refl $ forget ! 28 refl $
-        move ! (28 ∷ 29 ∷ []) $ free1 ! $ move ! (26 ∷ 27 ∷ []) $ free1 ! $ move ! (24 ∷ 25 ∷ []) $ free1 ! $ move ! (22 ∷ 23 ∷ []) $ free1 ! $ move ! (20 ∷ 21 ∷ []) $ free1 ! $ move ! (18 ∷ 19 ∷ []) $ free1 ! $ move ! (16 ∷ 17 ∷ []) $ free1 ! $ move ! (14 ∷ 15 ∷ []) $ free1 ! $ move ! (12 ∷ 13 ∷ []) $ free1 ! $ move ! (10 ∷ 11 ∷ []) $ free1 ! $ move ! (8 ∷ 9 ∷ []) $ free1 ! $ move ! (6 ∷ 7 ∷ []) $ free1 ! $ free0 ! $
-        move ! (5 ∷ []) $ split ! $ move ! (3 ∷ []) $ split ! $ move ! (1 ∷ []) $ split ! $ move ! (1 ∷ []) $ split ! $ move ! (1 ∷ []) $ split ! $ keep ! (4 ∷ 3 ∷ 2 ∷ 5 ∷ 0 ∷ 11 ∷ 12 ∷ 13 ∷ 14 ∷ 15 ∷ 16 ∷ 8 ∷ 7 ∷ []) $
-        by ! (exits r v (zs .1 .1 .1 .1 .1 .1 .0) (by-list5 cf (hs .now) pt (us .now) (ps .now) (rs .now) (os .now) m c em ec r (zs .1 .1 .1 .1 .1 .1 .0) e) l)))))))))))))))))))))))))))
+        land ! (from ! (stop !)) (init ! 31 refl (LL.lawful O.the-type O′.the-laws 𝓤 H A W .typed r _ is₃ .0)) $
+        returns ! (look ! 31 refl) $ forget ! 7 refl $ forget ! 9 refl $ forget ! 11 refl $ forget ! 13 refl $ forget ! 15 refl $ forget ! 17 refl $ forget ! 19 refl $ forget ! 21 refl $ forget ! 23 refl $ forget ! 25 refl $ forget ! 27 refl $ forget ! 29 refl $ forget ! 31 refl $
+        move ! (31 ∷ 32 ∷ []) $ free1 ! $ move ! (29 ∷ 30 ∷ []) $ free1 ! $ move ! (27 ∷ 28 ∷ []) $ free1 ! $ move ! (25 ∷ 26 ∷ []) $ free1 ! $ move ! (23 ∷ 24 ∷ []) $ free1 ! $ move ! (21 ∷ 22 ∷ []) $ free1 ! $ move ! (19 ∷ 20 ∷ []) $ free1 ! $ move ! (17 ∷ 18 ∷ []) $ free1 ! $ move ! (15 ∷ 16 ∷ []) $ free1 ! $ move ! (13 ∷ 14 ∷ []) $ free1 ! $ move ! (11 ∷ 12 ∷ []) $ free1 ! $ move ! (9 ∷ 10 ∷ []) $ free1 ! $ move ! (7 ∷ 8 ∷ []) $ free1 ! $ free0 ! $
+        move ! (5 ∷ []) $ split ! $ move ! (3 ∷ []) $ split ! $ move ! (1 ∷ []) $ split ! $ move ! (1 ∷ []) $ split ! $ move ! (1 ∷ []) $ split ! $ keep ! (4 ∷ 3 ∷ 2 ∷ 5 ∷ 0 ∷ 12 ∷ 13 ∷ 14 ∷ 15 ∷ 16 ∷ 17 ∷ 8 ∷ 7 ∷ []) $
+        by ! (exits r v (zs .1 .1 .1 .1 .1 .1 .1 .0) (by-list5 cf (hs .now) pt (us .now) (ps .now) (rs .now) (os .now) m c (em ed) ec r (zs .1 .1 .1 .1 .1 .1 .1 .0) (e ed)) l))))))))))))))))))))))))))))))))
 
 module _ {M : Type 1} (𝓤 : URA M) (H : Heap 𝓤) (A : Atoms 𝓤) (W : Given 𝓤 H A) (mem : Memory → SProp 𝓤) (run : Routine → Fun 𝓤) where
-  open-walks : (𝓒 : Calls 𝓤 H) (Λ : Loops 𝓤 H) → FmC 𝓤 H (W .laws) 𝓒 → Triple 𝓤 (𝓒 #wanted) (Wanted 𝓤 H A mem run) → Triple 𝓤 (𝓒 #choose) (Choose 𝓤 H A mem run) → Triple 𝓤 (𝓒 #core) (Core 𝓤 H A mem run)
+  open-walks : (𝓒 : Calls 𝓤 H) (Λ : Loops 𝓤 H) → FmC 𝓤 H (W .laws) 𝓒 → Triple 𝓤 (𝓒 #reading) (Reading 𝓤 H A mem run) → Triple 𝓤 (𝓒 #wanted) (Wanted 𝓤 H A mem run) → Triple 𝓤 (𝓒 #choose) (Choose 𝓤 H A mem run) → Triple 𝓤 (𝓒 #core) (Core 𝓤 H A mem run)
       → Walks 𝓤 H A open′.ended stayed (WpFn 𝓤 H 𝓒 Λ code.function) (open′.clauses 𝓤 H A mem run)
-  open-walks 𝓒 Λ fm known-wanted known-choose known-core = walked 𝓤 H A open′.ended stayed (open′.clauses 𝓤 H A mem run) (WpFn 𝓤 H 𝓒 Λ code.function)
+  open-walks 𝓒 Λ fm known-reading known-wanted known-choose known-core = walked 𝓤 H A open′.ended stayed (open′.clauses 𝓤 H A mem run) (WpFn 𝓤 H 𝓒 Λ code.function)
       (λ κs. (LL.vals Cfg.the-type Cfg′.the-laws, (slice-vals, (EL.vals Prt.the-type Prt′.the-laws, (slice-vals, (slice-vals, (slice-vals, (slice-vals, tt))))))))
       (λ κs. (LL.tells Cfg.the-type Cfg′.the-laws, (shr-slice-tells (named 0) (κs .0) u8, (EL.tells Prt.the-type Prt′.the-laws, (shr-slice-tells (named 1) (κs .1 .0) u8, (shr-slice-tells (named 2) (κs .1 .1 .0) u8, (shr-slice-tells (named 3) (κs .1 .1 .1 .0) R, (mut-slice-tells (named 4) (κs .1 .1 .1 .1 .0) u8, tt))))))))
       (λ κs qs bounds a g are. via 𝓤 _ (fst∗ 𝓤 _ (emp 𝓤)) (via 𝓤 _
       (apart 𝓤 H A W mem run (κs .0) (κs .1 .0) (κs .1 .1 .0) (κs .1 .1 .1 .0) (κs .1 .1 .1 .1 .0) (qs .0) (qs .1 .0) (qs .1 .1 .0) (qs .1 .1 .1 .0) (qs .1 .1 .1 .1 .0) (a .0) (a .1 .0) (a .1 .1 .0) (a .1 .1 .1 .0) (a .1 .1 .1 .1 .0) (a .1 .1 .1 .1 .1 .0) (a .1 .1 .1 .1 .1 .1 .0))
-      (walk 𝓤 H A W mem run (κs .0) (κs .1 .0) (κs .1 .1 .0) (κs .1 .1 .1 .0) (κs .1 .1 .1 .1 .0) (qs .0) (qs .1 .0) (qs .1 .1 .0) (qs .1 .1 .1 .0) (qs .1 .1 .1 .1 .0) (a .0) (a .1 .0) (a .1 .1 .0) (a .1 .1 .1 .0) (a .1 .1 .1 .1 .0) (a .1 .1 .1 .1 .1 .0) (a .1 .1 .1 .1 .1 .1 .0) 𝓒 Λ fm known-wanted known-choose known-core
+      (walk 𝓤 H A W mem run (κs .0) (κs .1 .0) (κs .1 .1 .0) (κs .1 .1 .1 .0) (κs .1 .1 .1 .1 .0) (qs .0) (qs .1 .0) (qs .1 .1 .0) (qs .1 .1 .1 .0) (qs .1 .1 .1 .1 .0) (a .0) (a .1 .0) (a .1 .1 .0) (a .1 .1 .1 .0) (a .1 .1 .1 .1 .0) (a .1 .1 .1 .1 .1 .0) (a .1 .1 .1 .1 .1 .1 .0) 𝓒 Λ fm known-reading known-wanted known-choose known-core
       (are .0) (are .1 .0 .0 .1) (are .1 .1 .0) (are .1 .1 .1 .0 .0 .1) (are .1 .1 .1 .1 .0 .0 .1) (are .1 .1 .1 .1 .1 .0 .0 .1) (are .1 .1 .1 .1 .1 .1 .0 .0 .1))))
 
 open-meets : {M : Type 1} (𝓤 : URA M) (H : Heap 𝓤) (A : Atoms 𝓤) (W : Given 𝓤 H A) (mem : Memory → SProp 𝓤) (run : Routine → Fun 𝓤) (𝓣 : Tables 𝓤 H)
-    → Triple 𝓤 (𝓣 .C #wanted) (Wanted 𝓤 H A mem run) → Triple 𝓤 (𝓣 .C #choose) (Choose 𝓤 H A mem run) → Triple 𝓤 (𝓣 .C #core) (Core 𝓤 H A mem run)
+    → Triple 𝓤 (𝓣 .C #reading) (Reading 𝓤 H A mem run) → Triple 𝓤 (𝓣 .C #wanted) (Wanted 𝓤 H A mem run) → Triple 𝓤 (𝓣 .C #choose) (Choose 𝓤 H A mem run) → Triple 𝓤 (𝓣 .C #core) (Core 𝓤 H A mem run)
     → Meets 𝓤 H A open′.signature (WpFn 𝓤 H (𝓣 .C) (𝓣 .Λ) code.function) (open′.spec 𝓤 H A mem run)
-open-meets 𝓤 H A W mem run 𝓣 known-wanted known-choose known-core =
+open-meets 𝓤 H A W mem run 𝓣 known-reading known-wanted known-choose known-core =
     walk-meets 𝓤 H A open′.ended stayed W
     (goes-none 𝓤 H A W 5 (λ _. C) yes (λ κs x f. refl), (goes-none-slice 𝓤 H A W 5 (0 ∷ []) tt (plain (λ _. u8)) yes, (goes-none 𝓤 H A W 5 (λ _. P) yes (λ κs x f. refl), (goes-none-slice 𝓤 H A W 5 (1 ∷ []) tt (plain (λ _. u8)) yes, (goes-none-slice 𝓤 H A W 5 (2 ∷ []) tt (plain (λ _. u8)) yes, (goes-none-slice 𝓤 H A W 5 (3 ∷ []) tt (plain (λ _. R)) yes, (goes-gave-slice 𝓤 H A W 5 4 tt (plain (λ _. u8)), tt)))))))
     (open′.clauses 𝓤 H A mem run) (WpFn 𝓤 H (𝓣 .C) (𝓣 .Λ) code.function) (WpFn-mono 𝓤 H (W .laws) 𝓣 code.function)
-    (open-walks 𝓤 H A W mem run (𝓣 .C) (𝓣 .Λ) (fmOf 𝓤 H (W .laws) 𝓣) known-wanted known-choose known-core)
+    (open-walks 𝓤 H A W mem run (𝓣 .C) (𝓣 .Λ) (fmOf 𝓤 H (W .laws) 𝓣) known-reading known-wanted known-choose known-core)
 
 pub open-spec : {M : Type 1} → stated.statement M
 unfolding code.routine tablesOf
@@ -285,6 +327,7 @@ open-spec 𝓤 H 𝓜 𝓖 𝓡 =
     entered 𝓤 H (tripleOf 𝓤 H (𝓖 .A) open′.signature (open′.spec 𝓤 H (𝓖 .A) (𝓜 .mem) (𝓡 .run)))
     (tables 𝓤 H 𝓜 𝓡 code.env .C) (tables 𝓤 H 𝓜 𝓡 code.env .Λ) #open code.function (code.unfolded 𝓤 H 𝓜 𝓡)
     (open-meets 𝓤 H (𝓖 .A) (givenOf 𝓤 H 𝓜 𝓖) (𝓜 .mem) (𝓡 .run) (tablesOf 𝓤 H 𝓜 (tables 𝓤 H 𝓜 𝓡 code.env))
+    (cited 𝓤 H (Reading 𝓤 H (𝓖 .A) (𝓜 .mem) (𝓡 .run)) 𝓜 𝓡 code.env #reading reading-def.routine code.calls-checks·lookups·read-host (reading-thm.met 𝓤 H 𝓜 𝓖 𝓡))
     (cited 𝓤 H (Wanted 𝓤 H (𝓖 .A) (𝓜 .mem) (𝓡 .run)) 𝓜 𝓡 code.env #wanted wanted-def.routine code.calls-checks·lookups·wanted5 (wanted-thm.met 𝓤 H 𝓜 𝓖 𝓡))
     (cited 𝓤 H (Choose 𝓤 H (𝓖 .A) (𝓜 .mem) (𝓡 .run)) 𝓜 𝓡 code.env #choose choose-def.routine code.calls-lookup·choose (choose-thm.met 𝓤 H 𝓜 𝓖 𝓡))
     (cited 𝓤 H (Core 𝓤 H (𝓖 .A) (𝓜 .mem) (𝓡 .run)) 𝓜 𝓡 code.env #core core-def.routine code.calls-openings-v5·open-chosen (core-thm.met 𝓤 H 𝓜 𝓖 𝓡)))

@@ -1,24 +1,37 @@
-use Prim.Native.Nat.{ℕ}
-use lib.ListN.{List·getD-eq-default}
 use borrow.Author.Needs.{needs}
-use borrow.Author.Tests.{lt-ltb, le-ltb}
-use Rattle.reader.specs.Reader.{byteAt}
+use Rattle.reader.proofs.Lists.{in-first, in-second, behind}
 use Rattle.reader.proofs.byte_at.Statement.{statement}
 use Rattle.reader.proofs.byte_at.Tie as tie
 
-shared-slice-read-t6 : tie.Need-shared-slice-read-t6
-shared-slice-read-t6 c = search needs
+shared-slice-read-t8 : tie.Need-shared-slice-read-t8
+shared-slice-read-t8 c = search needs
 
-add-t7 : tie.Need-add-t7
-add-t7 c = search needs
+add-t9 : tie.Need-add-t9
+add-t9 c = search needs
 
 returns : tie.Need-returns
-unfolding byteAt
-returns c = simp (lt-ltb _ _ (c .before .if1 .taken))
+returns c = let a = c .before .before .args in in-first (a .held .now) (a .piece .now) (a .at) (c .before .if1 .taken)
+
+shared-slice-read-t12 : tie.Need-shared-slice-read-t12
+shared-slice-read-t12 c = search needs
+
+add-t13 : tie.Need-add-t13
+add-t13 c = search needs
 
 returns-2 : tie.Need-returns-2
-unfolding byteAt
-returns-2 c = simp (le-ltb _ _ (c .if1 .left), List·getD-eq-default {A = ℕ} (c .before .args .s .now) 0 (c .if1 .left))
+returns-2 c = let a = c .before .before .before .args in in-second (a .held .now) (a .piece .now) (a .at) (c .before .before .if1 .left) (c .before .if2 .taken)
+
+returns-3 : tie.Need-returns-3
+returns-3 c = let a = c .before .before .args in behind (a .held .now) (a .piece .now) (a .at) (c .before .if1 .left) (c .if2 .left)
 
 pub byte-at-spec : {M : Type 1} → statement M
-byte-at-spec = tie.close (tie.spec shared-slice-read-t6 add-t7 returns returns-2)
+byte-at-spec =
+    tie.close
+    (tie.spec
+    shared-slice-read-t8
+    add-t9
+    returns
+    shared-slice-read-t12
+    add-t13
+    returns-2
+    returns-3)

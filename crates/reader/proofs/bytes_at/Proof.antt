@@ -1,27 +1,23 @@
-use native.Mathlib.Omega.{arith}
-use lib.ListN.{length}
+use lib.ListN.{length-append}
 use borrow.Author.Needs.{needs}
+use borrow.Author.Tests.{le-leb, lt-leb}
 use Rattle.reader.specs.Reader.{bytesAt}
-use Rattle.wire.proofs.Laws.{has-room}
 use Rattle.reader.proofs.bytes_at.Statement.{statement}
 use Rattle.reader.proofs.bytes_at.Tie as tie
 
-has-room-requires : tie.Need-has-room-requires
-has-room-requires c κs = search needs
+add-end : tie.Need-add-end
+add-end c = search needs
 
-add-t6 : tie.Need-add-t6
-add-t6 c =
-    let args = c .before .before .before .args in
-    let fits = has-room (args .at) (args .n) (length (args .s .now)) (c .before .has-room .ensures) (c .if1 .taken) in
-    omega arith
+add-if1 : tie.Need-add-if1
+add-if1 c = search needs
 
 returns : tie.Need-returns
 unfolding bytesAt
-returns c = simp (← c .before .has-room .ensures, c .if1 .taken)
+returns c = simp (length-append, le-leb _ _ (c .if1 .taken))
 
 returns-2 : tie.Need-returns-2
 unfolding bytesAt
-returns-2 c = simp (← c .before .has-room .ensures, c .if1 .left)
+returns-2 c = simp (length-append, lt-leb _ _ (c .if1 .left))
 
 pub bytes-at-spec : {M : Type 1} → statement M
-bytes-at-spec = tie.close (tie.spec has-room-requires add-t6 returns returns-2)
+bytes-at-spec = tie.close (tie.spec add-end add-if1 returns returns-2)

@@ -1,4 +1,6 @@
-use mathlib.Core.Path.{_≡_, ap, _∙_}
+use mathlib.Core.Path.{_≡_}
+use mathlib.Core.Bool.{Bool}
+use mathlib.Core.List.{List, _++_}
 use Prim.Native.Nat.{ℕ, _+_, _-_}
 use native.Mathlib.Omega.{arith}
 use lib.ListN.{take, drop}
@@ -14,43 +16,26 @@ returns c = rw (ne-eqb _ 0x03 (c .if1 .taken))
 wide-requires : tie.Need-wide-requires
 wide-requires c κs = search needs
 
-add-end : tie.Need-add-end
-add-end c =
-    let inside = c .before .before .before .pre (c .before .if1 .left) in
+add-is-utf8-at : tie.Need-add-is-utf8-at
+add-is-utf8-at c = search needs
+
+is-utf8-at-requires : tie.Need-is-utf8-at-requires
+is-utf8-at-requires c κs =
+    let pre = c .before .before .before .before .pre in
+    let inside = pre .2 (c .before .if1 .left) in
     let w = c .wide .ensures in
-    omega arith
+    (pre .0, omega arith, omega arith)
 
-sub-is-utf8 : tie.Need-sub-is-utf8
-sub-is-utf8 c = search needs
-
-part-is-utf8-start : tie.Need-part-is-utf8-start
-part-is-utf8-start c = search needs
-
-part-is-utf8-end : tie.Need-part-is-utf8-end
-part-is-utf8-end c =
-    let inside = c .before .before .before .pre (c .before .if1 .left) in
-    let w = c .wide .ensures in
-    omega arith
-
-is-utf8-requires : tie.Need-is-utf8-requires
-is-utf8-requires c κs = search needs
+-- the part from a place to so many bytes behind it
+part : (bs : List ℕ) (at w len : ℕ) (r : Bool) → w ≡ len → r ≡ isUtf8 (take (at + w - at) (drop at bs)) → r ≡ isUtf8 (take len (drop at bs))
+part bs at w len r e f = let z : at + w - at ≡ len = omega arith in rw z at f
 
 returns-2 : tie.Need-returns-2
 returns-2 c =
     let args = c .before .before .before .before .before .args in
-    let w = c .before .before .wide .ensures in
-    let e : args .at + c .before .before .wide .result - args .at ≡ args .len = omega arith in
-    rw (eq-eqb (args .atyp) 0x03 (c .before .before .before .if1 .left)) (c .is-utf8 .ensures ∙ ap (λ (n : ℕ). isUtf8 (take n (drop (args .at) (args .bytes .now)))) e)
+    rw (eq-eqb (args .atyp) 0x03 (c .before .before .if1 .left))
+    (part (args .held .now ++ args .piece .now) (args .at) (c .before .wide .result) (args .len) (c .is-utf8-at .result) (c .before .wide .ensures) (c .is-utf8-at .ensures))
 
 pub name-allowed-spec : {M : Type 1} → statement M
 name-allowed-spec =
-    tie.close
-    (tie.spec
-    returns
-    wide-requires
-    add-end
-    sub-is-utf8
-    part-is-utf8-start
-    part-is-utf8-end
-    is-utf8-requires
-    returns-2)
+    tie.close (tie.spec returns wide-requires add-is-utf8-at is-utf8-at-requires returns-2)

@@ -1,3 +1,4 @@
+use mathlib.Core.List.{_++_}
 use borrow.Author.Needs.{needs}
 use Rattle.protocol.specs.Replies.{authenticationVerdict, decide}
 use Rattle.reader.proofs.Came.{two-came, two-short}
@@ -14,7 +15,8 @@ authentication-verdict-requires c κs = search needs
 returns : tie.Need-returns
 unfolding decide
 returns c =
-    let bs = c .before .before .before .before .args .bytes .now in
+    let args = c .before .before .before .before .before .args in
+    let bs = args .held .now ++ args .piece .now in
     let p = c .before .before .two-at in
     let k = two-came bs 0 (p .result) (p .ensures) (c .before .if1 .taken) in
     cc (k .place, decided bs 2 (p .result) authenticationVerdict _ k (c .authentication-verdict .ensures))
@@ -22,7 +24,8 @@ returns c =
 returns-2 : tie.Need-returns-2
 unfolding decide
 returns-2 c =
-    let bs = c .before .before .before .args .bytes .now in
+    let args = c .before .before .before .before .args in
+    let bs = args .held .now ++ args .piece .now in
     let p = c .before .two-at in
     undecided 2 bs _ (two-short bs 0 (p .result) (p .ensures) (c .if1 .left))
 

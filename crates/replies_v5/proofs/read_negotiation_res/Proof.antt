@@ -1,3 +1,4 @@
+use mathlib.Core.List.{_++_}
 use borrow.Author.Needs.{needs}
 use Rattle.protocol.specs.Replies.{negotiationVerdict, decide}
 use Rattle.reader.proofs.Came.{two-came, two-short}
@@ -14,15 +15,17 @@ negotiation-verdict-requires c κs = search needs
 returns : tie.Need-returns
 unfolding decide
 returns c =
-    let bs = c .before .before .before .before .args .bytes .now in
+    let args = c .before .before .before .before .before .args in
+    let bs = args .held .now ++ args .piece .now in
     let p = c .before .before .two-at in
     let k = two-came bs 0 (p .result) (p .ensures) (c .before .if1 .taken) in
-    cc (k .place, decided bs 2 (p .result) (negotiationVerdict (c .before .before .before .before .args .sent)) _ k (c .negotiation-verdict .ensures))
+    cc (k .place, decided bs 2 (p .result) (negotiationVerdict (args .sent)) _ k (c .negotiation-verdict .ensures))
 
 returns-2 : tie.Need-returns-2
 unfolding decide
 returns-2 c =
-    let bs = c .before .before .before .args .bytes .now in
+    let args = c .before .before .before .before .args in
+    let bs = args .held .now ++ args .piece .now in
     let p = c .before .two-at in
     undecided 2 bs _ (two-short bs 0 (p .result) (p .ensures) (c .if1 .left))
 

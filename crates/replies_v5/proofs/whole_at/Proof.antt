@@ -1,5 +1,5 @@
 use mathlib.Core.Path.{_≡_, _∙_}
-use mathlib.Core.List.{List}
+use mathlib.Core.List.{List, _++_}
 use Prim.Native.Nat.{ℕ, _+_, _≤_}
 use lib.ListN.{length, take, drop}
 use Rattle.protocol.specs.Bytes.{byte}
@@ -26,13 +26,14 @@ unfolding proxySize
 named atyp len rest e t = let f : 5 + rest ≡ 7 + len = e ∙ rw t in omega arith
 
 proxy-verdict-requires : tie.Need-proxy-verdict-requires
-proxy-verdict-requires c κs t =
-    let args = c .before .before .before .before .args in
+proxy-verdict-requires c κs =
+    let start = c .before .before .before .before .before in
+    let args = start .args in
+    let bs = args .held .now ++ args .piece .now in
     let rest = c .before .before .rest-size in
-    let n = named (args .atyp) (args .len) (rest .result) (rest .ensures) t in
     let p = c .before .bytes-at in
-    let k = bytes-came (args .bytes .now) (args .at) (rest .result) (p .result) (p .ensures) (c .if1 .taken) in
-    omega arith
+    let k = bytes-came bs (args .at) (rest .result) (p .result) (p .ensures) (c .if1 .taken) in
+    (start .pre .0, start .pre .1, λ t. let n = named (args .atyp) (args .len) (rest .result) (rest .ensures .0) t in omega arith)
 
 -- the whole reply, over plain values: what `cc` and `omega` read is then short
 whole : (bs : List ℕ) (at rest rep atyp len place : ℕ) (v : Verdict)
@@ -46,24 +47,26 @@ whole bs at rest rep atyp len place v five one three four size k e =
 
 returns : tie.Need-returns
 returns c =
-    let start = c .before .before .before .before .before in
+    let start = c .before .before .before .before .before .before in
     let args = start .args in
+    let bs = args .held .now ++ args .piece .now in
     let rest = c .before .before .before .rest-size in
     let p = c .before .before .bytes-at in
-    whole (args .bytes .now) (args .at) (rest .result) (args .rep) (args .atyp) (args .len) (p .result .at) (c .proxy-verdict .result)
-    (start .pre .0) (start .pre .1) (start .pre .2) (start .pre .3) (rest .ensures)
-    (bytes-came (args .bytes .now) (args .at) (rest .result) (p .result) (p .ensures) (c .before .if1 .taken)) (c .proxy-verdict .ensures)
+    whole bs (args .at) (rest .result) (args .rep) (args .atyp) (args .len) (p .result .at) (c .proxy-verdict .result)
+    (start .pre .1) (start .pre .2) (start .pre .3) (start .pre .4) (rest .ensures .0)
+    (bytes-came bs (args .at) (rest .result) (p .result) (p .ensures) (c .before .if1 .taken)) (c .proxy-verdict .ensures)
 
 returns-2 : tie.Need-returns-2
 returns-2 c =
-    let start = c .before .before .before .before in
+    let start = c .before .before .before .before .before in
     let args = start .args in
+    let bs = args .held .now ++ args .piece .now in
     let rest = c .before .before .rest-size in
     let p = c .before .bytes-at in
-    let k = bytes-short (args .bytes .now) (args .at) (rest .result) (p .result) (p .ensures) (c .if1 .left) in
-    let five = start .pre .0 in
-    let e = rest .ensures in
-    undecided (proxySize (args .atyp) (args .len)) (args .bytes .now) _ (omega arith)
+    let k = bytes-short bs (args .at) (rest .result) (p .result) (p .ensures) (c .if1 .left) in
+    let five = start .pre .1 in
+    let e = rest .ensures .0 in
+    undecided (proxySize (args .atyp) (args .len)) bs _ (omega arith)
 
 pub whole-at-spec : {M : Type 1} → statement M
 whole-at-spec =

@@ -7,9 +7,6 @@ use Rattle.requests_v4.proofs.put_address.Tie as tie
 put-head-requires : tie.Need-put-head-requires
 put-head-requires c κs = search needs
 
-slice-aggregate-copy : tie.Need-slice-aggregate-copy
-slice-aggregate-copy c = search needs
-
 copy-requires : tie.Need-copy-requires
 copy-requires c κs = search needs
 
@@ -21,15 +18,8 @@ same-length c = search needs
 
 returns : tie.Need-returns
 unfolding request
-returns c = then (then (c .before .before .before .before .before .before .before .before .before .before .before .put-head .ensures) (c .before .before .before .before .before .before .copy .ensures)) (c .before .before .put-byte .ensures)
+returns c = then (then (c .before .before .before .before .before .before .before .before .before .before .put-head .ensures) (c .before .before .before .before .before .before .copy .ensures)) (c .before .before .put-byte .ensures)
 
 pub put-address-spec : {M : Type 1} → statement M
 put-address-spec =
-    tie.close
-    (tie.spec
-    put-head-requires
-    slice-aggregate-copy
-    copy-requires
-    put-byte-requires
-    same-length
-    returns)
+    tie.close (tie.spec put-head-requires copy-requires put-byte-requires same-length returns)

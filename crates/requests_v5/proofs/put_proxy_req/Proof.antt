@@ -1,24 +1,26 @@
-use mathlib.Core.Path.{_≡_, ap, sym, _∙_}
-use Prim.Native.Nat.{ℕ, _≤_}
+use mathlib.Core.Path.{_≡_, refl}
+use mathlib.Core.List.{List}
+use Prim.Native.Nat.{ℕ, _+_, _≤_}
 use native.Mathlib.Omega.{arith}
-use lib.ListN.{length, take}
+use lib.ListN.{length}
+use Rattle.wire.specs.Written.{Wrote}
 use Rattle.wire.proofs.Laws.{wrote-length, then}
-use Rattle.requests_v5.proofs.Sizes.{field-size, kept-length}
+use Rattle.protocol.specs.declared.AddressKind.{AddressKind}
+use Rattle.protocol.specs.Requests.{addressField, proxyReq, kindOf}
 use Rattle.requests_v5.specs.Sizes.{addressSize}
-use Rattle.protocol.specs.Requests.{proxyReq}
+use Rattle.requests_v5.proofs.Sizes.{field-size}
 use borrow.Author.Needs.{needs}
 use Rattle.requests_v5.proofs.put_proxy_req.Statement.{statement}
 use Rattle.requests_v5.proofs.put_proxy_req.Tie as tie
 
-bytes-length : (c : tie.Start) → length (c .args .address .bytes) ≡ 255
-bytes-length c = search needs
-
-len-small : (c : tie.Start) → c .args .address .len ≤ 255
-len-small c = search needs
-
--- the part that is written has as many bytes as the address says
-part : (c : tie.Start) (n : ℕ) → n ≡ c .args .address .len → length (take n (c .args .address .bytes)) ≡ n
-part c n e = let h = len-small c in kept-length n (c .args .address .bytes) (bytes-length c) (omega arith)
+-- behind the address field there is room for the port
+port-room : {o o₁ o₂ bs : List ℕ} {at a b : ℕ} (k : AddressKind) (cs : List ℕ) → Wrote o at bs a o₁ → Wrote o₁ a (addressField (kindOf k cs)) b o₂
+    → length bs ≡ 3 → at + (addressSize k (length cs) + 5) ≤ length o → b + 2 ≤ length o₂
+port-room k cs v w l h =
+    let p = v .place in
+    let q = w .place in
+    let f = field-size k cs in
+    omega (arith, wrote-length v, wrote-length w)
 
 slice-aggregate-copy : tie.Need-slice-aggregate-copy
 slice-aggregate-copy c = search needs
@@ -26,40 +28,13 @@ slice-aggregate-copy c = search needs
 copy-requires : tie.Need-copy-requires
 copy-requires c κs = search needs
 
-wide-requires : tie.Need-wide-requires
-wide-requires c κs = search needs
-
-array-share-prefix-bytes : tie.Need-array-share-prefix-bytes
-array-share-prefix-bytes c = let w = c .before .wide .ensures in let h = len-small (c .before .before .before .before .before .before .before .before .before) in let l = bytes-length (c .before .before .before .before .before .before .before .before .before) in omega arith
-
-slice-aggregate-put-address : tie.Need-slice-aggregate-put-address
-slice-aggregate-put-address c = sym (part (c .before .before .before .before .before .before .before .before .before .before) (c .before .before .wide .result) (c .before .before .wide .ensures))
-
 put-address-requires : tie.Need-put-address-requires
-put-address-requires c κs =
-    let start = c .before .before .before .before .before .before .before .before .before .before in
-    let n = part start (c .before .before .wide .result) (c .before .before .wide .ensures) in
-    let w = c .before .before .wide .ensures in
-    let h = len-small start in
-    let v = c .before .before .before .before .before .before .copy .ensures in
-    let j = v .place in
-    let p = start .pre in
-    (omega arith, rw (n, w) (omega (arith, wrote-length v)))
+put-address-requires c κs = search needs
 
 put-port-requires : tie.Need-put-port-requires
 put-port-requires c κs =
-    let start = c .before .before .before .before .before .before .before .before .before .before .before .before .before .before in
-    let a = start .args .address in
-    let w = c .before .before .before .before .before .before .wide .ensures in
-    let n = part start (c .before .before .before .before .before .before .wide .result) w in
-    let u = c .before .before .before .before .before .before .before .before .before .before .copy .ensures in
-    let v = c .before .before .before .put-address .ensures in
-    let f = field-size (a .kind) (take (c .before .before .before .before .before .before .wide .result) (a .bytes)) in
-    let z : addressSize (a .kind) (length (take (c .before .before .before .before .before .before .wide .result) (a .bytes))) ≡ addressSize (a .kind) (a .len) = ap (addressSize (a .kind)) (n ∙ w) in
-    let i = v .place in
-    let j = u .place in
-    let p = start .pre in
-    omega (arith, wrote-length u, wrote-length v)
+    let start = c .before .before .before .before .before .before .before .before .before .before .before .before in
+    port-room (start .args .kind) (start .args .bytes .now) (c .before .before .before .before .before .before .before .copy .ensures) (c .before .before .before .put-address .ensures) refl (start .pre .1)
 
 same-length : tie.Need-same-length
 same-length c = search needs
@@ -67,8 +42,7 @@ same-length c = search needs
 returns : tie.Need-returns
 unfolding proxyReq
 returns c =
-    rw (← c .before .before .before .before .before .before .before .before .before .wide .ensures)
-    (then (then (c .before .before .before .before .before .before .before .before .before .before .before .before .before .copy .ensures) (c .before .before .before .before .before .before .put-address .ensures)) (c .before .before .put-port .ensures))
+    then (then (c .before .before .before .before .before .before .before .before .before .before .copy .ensures) (c .before .before .before .before .before .before .put-address .ensures)) (c .before .before .put-port .ensures)
 
 pub put-proxy-req-spec : {M : Type 1} → statement M
 put-proxy-req-spec =
@@ -76,9 +50,6 @@ put-proxy-req-spec =
     (tie.spec
     slice-aggregate-copy
     copy-requires
-    wide-requires
-    array-share-prefix-bytes
-    slice-aggregate-put-address
     put-address-requires
     put-port-requires
     same-length

@@ -1,11 +1,8 @@
 use borrow.Author.Needs.{needs}
 use Rattle.lookup.specs.Chosen.{recordsOf}
-use Rattle.checks.proofs.Laws.{checks4}
+use Rattle.checks.proofs.Laws.{checked4}
 use Rattle.checks.proofs.checks.check4.Statement.{statement}
 use Rattle.checks.proofs.checks.check4.Tie as tie
-
-kind-of-requires : tie.Need-kind-of-requires
-kind-of-requires c κs = search needs
 
 is-name-requires : tie.Need-is-name-requires
 is-name-requires c κs = search needs
@@ -27,17 +24,14 @@ check-shared-requires c κs = search needs
 
 returns : tie.Need-returns
 returns c =
-    let c6 = c .before .before in
-    let c4 = c6 .before .before in
-    let c2 = c4 .before .before in
-    let a = c2 .before .before .args in
-    checks4 (a .host .now) (a .port) (a .room) (recordsOf (a .chosen)) (a .local-dns) (c2 .kind-of .ensures) (c4 .before .is-name .ensures) (c4 .finds-no-four .ensures) (c6 .before .check-name .ensures) (c6 .is-ipv6 .ensures) (c .before .refuse-if .ensures) (c .check-shared .ensures)
+    let c4 = c .before .before .before .before in
+    let a = c4 .before .before .before .args in
+    checked4 (a .text .now) (a .kind) (a .port) (a .room) (recordsOf (a .chosen)) (c4 .before .is-name .ensures) (a .local-dns) (c4 .finds-no-four .ensures) (c .before .before .before .check-name .ensures) (c .before .before .is-ipv6 .ensures) (c .before .refuse-if .ensures) (c .check-shared .ensures)
 
 pub check4-spec : {M : Type 1} → statement M
 check4-spec =
     tie.close
     (tie.spec
-    kind-of-requires
     is-name-requires
     finds-no-four-requires
     check-name-requires

@@ -1,11 +1,8 @@
 use borrow.Author.Needs.{needs}
 use Rattle.lookup.specs.Chosen.{recordsOf}
-use Rattle.checks.proofs.Laws.{checks5}
+use Rattle.checks.proofs.Laws.{checked5}
 use Rattle.checks.proofs.checks.check5.Statement.{statement}
 use Rattle.checks.proofs.checks.check5.Tie as tie
-
-kind-of-requires : tie.Need-kind-of-requires
-kind-of-requires c κs = search needs
 
 is-name-requires : tie.Need-is-name-requires
 is-name-requires c κs = search needs
@@ -27,17 +24,14 @@ check-shared-requires c κs = search needs
 
 returns : tie.Need-returns
 returns c =
-    let c6 = c .before .before in
-    let c4 = c6 .before .before in
-    let c2 = c4 .before .before in
-    let a = c2 .before .before .before .before .args in
-    checks5 (a .host .now) (a .port) (a .room) (recordsOf (a .chosen)) (a .config) (a .user .now) (a .password .now) (c2 .kind-of .ensures) (c4 .before .is-name .ensures) (c4 .finds-none .ensures) (c6 .before .check-name .ensures) (c6 .credentials-too-long .ensures) (c .before .refuse-if .ensures) (c .check-shared .ensures)
+    let c4 = c .before .before .before .before in
+    let a = c4 .before .before .before .before .before .args in
+    checked5 (a .text .now) (a .kind) (a .port) (a .room) (recordsOf (a .chosen)) (c4 .before .is-name .ensures) (a .config) (a .user .now) (a .password .now) (c4 .finds-none .ensures) (c .before .before .before .check-name .ensures) (c .before .before .credentials-too-long .ensures) (c .before .refuse-if .ensures) (c .check-shared .ensures)
 
 pub check5-spec : {M : Type 1} → statement M
 check5-spec =
     tie.close
     (tie.spec
-    kind-of-requires
     is-name-requires
     finds-none-requires
     check-name-requires

@@ -1,5 +1,5 @@
-use mathlib.Core.Path.{sym, _∙_}
 use borrow.Author.Needs.{needs}
+use mathlib.Core.Path.{sym, _∙_}
 use Rattle.checks.proofs.lookups.wanted4.Statement.{statement}
 use Rattle.checks.proofs.lookups.wanted4.Tie as tie
 
@@ -7,10 +7,10 @@ looks-up-requires : tie.Need-looks-up-requires
 looks-up-requires c κs = search needs
 
 returns : tie.Need-returns
-returns c = rw (sym (c .before .looks-up .ensures) ∙ c .if1 .taken)
+returns c e = rw (sym (c .before .looks-up .ensures e) ∙ c .if1 .taken)
 
 returns-2 : tie.Need-returns-2
-returns-2 c = rw (sym (c .before .looks-up .ensures) ∙ c .if1 .left)
+returns-2 c e = rw (sym (c .before .looks-up .ensures e) ∙ c .if1 .left)
 
 pub wanted4-spec : {M : Type 1} → statement M
 wanted4-spec = tie.close (tie.spec looks-up-requires returns returns-2)

@@ -1,0 +1,57 @@
+use mathlib.Core.Path.{sym, _∙_}
+use mathlib.Core.Bool.{false≢true}
+use borrow.Author.Needs.{needs}
+use borrow.Author.Tests.{le-ltb, ltb-true}
+use Rattle.addresses.proofs.Marks.{unmarked}
+use Rattle.addresses.proofs.lacks_mark.Statement.{statement}
+use Rattle.addresses.proofs.lacks_mark.Tie as tie
+
+returns : tie.Need-returns
+returns c e = absurd (false≢true e)
+
+shared-slice-read-if2 : tie.Need-shared-slice-read-if2
+shared-slice-read-if2 c = search needs
+
+shared-slice-read-if3 : tie.Need-shared-slice-read-if3
+shared-slice-read-if3 c = search needs
+
+shared-slice-read-if4 : tie.Need-shared-slice-read-if4
+shared-slice-read-if4 c = search needs
+
+shared-slice-read-if5 : tie.Need-shared-slice-read-if5
+shared-slice-read-if5 c = search needs
+
+shared-slice-read-result : tie.Need-shared-slice-read-result
+shared-slice-read-result c = search needs
+
+returns-2 : tie.Need-returns-2
+returns-2 c e =
+    unmarked _ (c .before .before .before .before .before .before .before .before .before .if1 .left) (c .before .before .before .before .before .before .before .if2 .taken) (c .before .before .before .before .before .if3 .taken) (c .before .before .before .if4 .taken) (c .before .if5 .taken) (ltb-true _ _ e)
+
+returns-3 : tie.Need-returns-3
+returns-3 c e = absurd (false≢true (sym (le-ltb _ _ (c .if5 .left)) ∙ e))
+
+returns-4 : tie.Need-returns-4
+returns-4 c e = absurd (false≢true (sym (le-ltb _ _ (c .if4 .left)) ∙ e))
+
+returns-5 : tie.Need-returns-5
+returns-5 c e = absurd (false≢true (sym (le-ltb _ _ (c .if3 .left)) ∙ e))
+
+returns-6 : tie.Need-returns-6
+returns-6 c e = absurd (false≢true (sym (le-ltb _ _ (c .if2 .left)) ∙ e))
+
+pub lacks-mark-spec : {M : Type 1} → statement M
+lacks-mark-spec =
+    tie.close
+    (tie.spec
+    returns
+    shared-slice-read-if2
+    shared-slice-read-if3
+    shared-slice-read-if4
+    shared-slice-read-if5
+    shared-slice-read-result
+    returns-2
+    returns-3
+    returns-4
+    returns-5
+    returns-6)

@@ -1,0 +1,52 @@
+use mathlib.Core.Path.{ap}
+use Rattle.protocol.specs.declared.Reply.the-variants.{ProxyRes}
+use Rattle.sending.specs.declared.Stage.the-variants.{Awaiting}
+use Rattle.sending.proofs.Sending.{due}
+use borrow.Author.Needs.{needs}
+use Rattle.sending.proofs.due_after.Statement.{statement}
+use Rattle.sending.proofs.due_after.Tie as tie
+
+enum-known-reply : tie.Need-enum-known-reply
+enum-known-reply c = search needs
+
+due-after-method-requires : tie.Need-due-after-method-requires
+due-after-method-requires c κs = search needs
+
+enum-told : tie.Need-enum-told
+enum-told c = search needs
+
+proxy-due-requires : tie.Need-proxy-due-requires
+proxy-due-requires c κs = search needs
+
+enum-told-2 : tie.Need-enum-told-2
+enum-told-2 c = search needs
+
+enum-told-3 : tie.Need-enum-told-3
+enum-told-3 c = search needs
+
+returns : tie.Need-returns
+returns c = rw (c .before .before .reply .given .1) (c .due-after-method .ensures)
+
+returns-2 : tie.Need-returns-2
+returns-2 c = rw (c .before .enum-told .given .1) (ap (due (Awaiting ProxyRes)) (c .proxy-due .ensures))
+
+returns-3 : tie.Need-returns-3
+returns-3 c = rw (c .enum-told2 .given .1)
+
+returns-4 : tie.Need-returns-4
+returns-4 c = rw (c .enum-told3 .given .1)
+
+pub due-after-spec : {M : Type 1} → statement M
+due-after-spec =
+    tie.close
+    (tie.spec
+    enum-known-reply
+    due-after-method-requires
+    enum-told
+    proxy-due-requires
+    enum-told-2
+    enum-told-3
+    returns
+    returns-2
+    returns-3
+    returns-4)

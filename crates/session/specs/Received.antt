@@ -1,0 +1,36 @@
+-- What a delivery comes to before anything is sent: by the lengths of the requests, whatever their bytes, and the output lent, whatever it holds.
+use Prim.Native.Nat.{ℕ, _+_, _≤_}
+use mathlib.Core.Path.{_≡_}
+use mathlib.Core.List.{List, _++_}
+use lib.ListN.{length, drop}
+use Rattle.protocol.specs.declared.Answer.{Answer}
+use Rattle.sending.specs.declared.Lengths.{Lengths}
+use Rattle.sending.specs.declared.Stage.{Stage}
+use Rattle.sending.specs.Parts.{part}
+use Rattle.session.specs.declared.Session.{Session}
+use Rattle.session.specs.declared.Received.{Received}
+use Rattle.session.specs.Calls.{Call, deliver}
+use Rattle.turns.specs.declared.Taken.{Taken}
+
+abbrev pub unchanged : Answer → Stage → ℕ → Received
+unchanged a s n = record { answer = a; taken = record { stage = s; held = n; used = 0; from = 0; sent = 0 } }
+
+abbrev pub sessionOf : Stage → ℕ → List ℕ → Lengths → List ℕ → Session
+sessionOf s n hold l b = record { stage = s; held = n; hold = hold; requests = record { lengths = l; bytes = b } }
+
+-- the call: what became due, sent
+abbrev pub sending : Answer → Taken → List ℕ → Lengths → List ℕ → List ℕ → Call
+sending a t hold l b out =
+    record {
+      answer = a;
+      session = sessionOf (t .stage) (t .held) hold l b;
+      used = t .used;
+      sent = length (part b (t .from) (t .sent));
+      output = part b (t .from) (t .sent) ++ drop (length (part b (t .from) (t .sent))) out;
+    }
+
+pub record Receives (stage : Stage) (held : ℕ) (l : Lengths) (hold piece : List ℕ) (room : ℕ) (r : Received) (hold′ : List ℕ) : Type 0 where
+  pub calls : (b out : List ℕ) → length out ≡ room → deliver (sessionOf stage held hold l b) piece out ≡ sending (r .answer) (r .taken) hold′ l b out
+  pub within : r .taken .used ≤ length piece
+  pub fits : r .taken .sent ≤ room
+  pub inside : r .taken .from + r .taken .sent ≤ 778

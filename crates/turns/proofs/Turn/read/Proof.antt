@@ -1,0 +1,72 @@
+use native.Mathlib.Omega.{arith}
+use mathlib.Core.Path.{sym}
+use mathlib.Core.List.{_++_}
+use lib.ListN.{length-append}
+use Rattle.turns.proofs.Turning.{turn-undecided, turn-decided, decided-inside, judged-small}
+use borrow.Author.Needs.{needs}
+use Rattle.turns.proofs.Turn.read.Statement.{statement}
+use Rattle.turns.proofs.Turn.read.Tie as tie
+
+read-at-requires : tie.Need-read-at-requires
+read-at-requires c κs = search needs
+
+enum-told : tie.Need-enum-told
+enum-told c = search needs
+
+enum-known-n : tie.Need-enum-known-n
+enum-known-n c = search needs
+
+due-judged-requires : tie.Need-due-judged-requires
+due-judged-requires c κs = search needs
+
+add-place : tie.Need-add-place
+add-place c =
+    let start = c .before .before .before .before .before .before .before .before in
+    let a = start .args in
+    let p = start .pre in
+    let l = length-append (a .held .now) (a .piece .now) in
+    let i = decided-inside (a .lengths) (a .reply) (a .held .now ++ a .piece .now) (a .self .place) (a .self .sent) (c .before .before .before .before .before .read-at .ensures .0) (c .before .before .before .n .given .1) (omega arith) in
+    let k = c .before .before .before .before .before .before .shared-slice-known2 .given in
+    record { fits = omega arith }
+
+add-t14 : tie.Need-add-t14
+add-t14 c =
+    let start = c .before .before .before .before .before .before .before .before .before .before in
+    let a = start .args in
+    let p = start .pre in
+    record { fits = omega (arith, judged-small (a .lengths) (a .reply) (c .before .before .before .before .before .n .given .0 .1 .0) (c .before .before .before .due-judged .ensures), p .2) }
+
+add-goes-on : tie.Need-add-goes-on
+add-goes-on c = search needs
+
+goes-on-requires : tie.Need-goes-on-requires
+goes-on-requires c κs = search needs
+
+returns : tie.Need-returns
+returns c =
+    let a = c .before .before .before .before .before .args in
+    let r = c .before .before .read-at .ensures in
+    turn-undecided (a .lengths) (a .reply) (a .held .now ++ a .piece .now) (a .self .place) (a .self .sent) (r .0) (r .1) (c .enum-told .given .1)
+
+returns-2 : tie.Need-returns-2
+returns-2 c =
+    let start = c .before .before .before .before .before .before .before .before .before .before .before in
+    let a = start .args in
+    let p = start .pre in
+    let l = length-append (a .held .now) (a .piece .now) in
+    turn-decided (a .lengths) (a .reply) (a .held .now ++ a .piece .now) (a .self .place) (a .self .sent) (c .before .before .before .before .before .before .before .before .read-at .ensures .0) (c .before .before .before .before .before .before .n .given .1) (omega arith) (c .before .before .before .before .due-judged .ensures) (sym l) (c .goes-on .ensures)
+
+pub read-spec : {M : Type 1} → statement M
+read-spec =
+    tie.close
+    (tie.spec
+    read-at-requires
+    enum-told
+    enum-known-n
+    due-judged-requires
+    add-place
+    add-t14
+    add-goes-on
+    goes-on-requires
+    returns
+    returns-2)
