@@ -11,7 +11,7 @@ use borrow.Author.Tests.{ltb-true, ne-eqb}
 use Rattle.protocol.specs.declared.Follows.the-variants.{Bad}
 use Rattle.protocol.specs.Bytes.{byte}
 use Rattle.protocol.specs.AddressText.{Hex, digit, upper, lower}
-use Rattle.protocol.specs.AddressReading.{hexValue, digitsFrom, decimalGoes, hexGoes, numberOf, groupOf, markAt, followsAt, dotted, ipv4Of, row, no-row, wholeOf, startsGap, ipv6Of, domain, destinationOf}
+use Rattle.protocol.specs.AddressReading.{hexValue, digitsFrom, decimalGoes, hexGoes, numberOf, groupOf, markAt, followsAt, dotted, ipv4Of, row, wholeOf, startsGap, ipv6Of, domain, destinationOf}
 use Rattle.protocol.proofs.AddressDigits.{value-hex, hex-goes, mark-is}
 
 -- a byte above 3A is no decimal digit

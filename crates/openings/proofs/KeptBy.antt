@@ -11,7 +11,7 @@ use Rattle.protocol.specs.declared.AuthMethod.the-variants.{NoAuth, UserPass}
 use Rattle.protocol.specs.Requests.{negotiationReq, authenticationReq, proxyReq, request}
 use Rattle.protocol.specs.Opening.{Opening, v5, v4, noAuth, userPass, Limits}
 use Rattle.protocol.specs.Client as client
-use Rattle.sending.specs.Parts.{part, negotiationOf, authenticationOf, proxyOf, requestOf, requestsOf}
+use Rattle.sending.specs.Parts.{part, negotiationOf, authenticationOf, proxyOf, requestsOf}
 use Rattle.wire.specs.Written.{overwrite, Wrote}
 use Rattle.wire.proofs.Laws.{then}
 use Rattle.session.specs.Calls.{padded, keptWith, keptBy}

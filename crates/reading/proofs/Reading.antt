@@ -7,9 +7,9 @@ use mathlib.Core.Path.{_≡_, refl, ap, sym, _∙_}
 use mathlib.Core.Bool.{Bool, true, false}
 use mathlib.Core.List.{List, _++_, append-assoc}
 use lib.ListN.{length, take, drop, getD, set, length-drop, take-append-drop, List·getD-append}
-use lib.Seq.{take-add, drop-at, drop-length, drop-append-le, drop-append-add, getD-append-add, getD-drop, length-take-le, paste, paste-suc, length-paste, drop-paste}
-use lib.Dec.{ltb, leb}
-use borrow.Author.Tests.{lt-leb, ltb-true, ltb-false, leb-true, leb-false}
+use lib.Seq.{take-add, drop-at, drop-append-add, getD-append-add, getD-drop, length-take-le, paste, paste-suc, length-paste, drop-paste}
+use lib.Dec.{ltb}
+use borrow.Author.Tests.{lt-leb, ltb-true, ltb-false}
 use Rattle.protocol.specs.declared.Reply.{Reply}
 use Rattle.protocol.specs.declared.Reply.the-variants.{NegotiationRes, AuthenticationRes, ProxyRes, Response}
 use Rattle.protocol.specs.declared.Decision.the-variants.{Undecided}
@@ -17,7 +17,7 @@ use Rattle.protocol.specs.Bytes.{byte}
 use Rattle.protocol.specs.Replies.{decide, proxyAt}
 use Rattle.wire.specs.Written.{overwrite, Wrote}
 use Rattle.wire.proofs.Laws.{length-overwrite, overwrite-more}
-use Rattle.wire.proofs.Parts.{part-from}
+use Rattle.wire.proofs.Parts.{part-from, drop-two}
 use Rattle.reading.specs.Fewest.{fewest}
 
 -- no reply is decided by fewer bytes
@@ -37,24 +37,9 @@ any-byte h p u v i = go (ltb i (length h)) refl
     go true e = rw (List·getD-append h p 0 i (ltb-true i (length h) e)) (u i)
     go false e = let k = ltb-false i (length h) e in let z : i ≡ length h + (i - length h) = omega arith in rw (z, getD-append-add h p (i - length h) 0) (v (i - length h))
 
-unread : (h p : List ℕ) (place a : ℕ) → a ≡ min place (length h) → drop a h ++ drop (place - a) p ≡ drop place (h ++ p)
-unread h p place a e = go (leb place (length h)) refl
-  where
-    go : (b : Bool) → leb place (length h) ≡ b → drop a h ++ drop (place - a) p ≡ drop place (h ++ p)
-    go true f =
-        let k = leb-true place (length h) f in
-        let x : a ≡ place = omega arith in
-        let z : place - place ≡ 0 = omega arith in
-        rw (x, z) (sym (drop-append-le place h p k))
-    go false f =
-        let k = leb-false place (length h) f in
-        let x : a ≡ length h = omega arith in
-        let z : length h + (place - length h) ≡ place = omega arith in
-        rw (x, drop-length h) (sym (drop-append-add h p (place - length h)) ∙ ap (λ (n : ℕ). drop n (h ++ p)) z)
-
 pub unread-parts : (h p : List ℕ) (place a : ℕ) → a ≡ min place (length h)
     → take (length h - a) (drop a h) ++ take (length p - (place - a)) (drop (place - a) p) ≡ drop place (h ++ p)
-unread-parts h p place a e = rw (part-from h a, part-from p (place - a)) (unread h p place a e)
+unread-parts h p place a e = rw (part-from h a, part-from p (place - a)) (sym (drop-two place h p a e))
 
 -- ---- bytes moved to the start
 

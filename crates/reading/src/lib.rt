@@ -24,7 +24,6 @@ pub fn fewest(reply: Reply) -> usize
 
 // A reply on the unread bytes. That the fifth of them is a byte is said for the callers' sake.
 fn read_reply(reply: Reply, held: &[u8], piece: &[u8]) -> Decision
-    requires { ⌜ length (now held) ≤ 261 ⌝ }
     ensures { λ r. ⌜ (r ≡ decide reply (now (held .entry) ++ now (piece .entry))) × (byte (now (held .entry) ++ now (piece .entry)) 4 ≤ 255) ⌝ }
 {
     match reply {
@@ -37,7 +36,7 @@ fn read_reply(reply: Reply, held: &[u8], piece: &[u8]) -> Decision
 
 // The reply at a place of the held bytes and then the piece.
 pub fn read_at(reply: Reply, held: &[u8], piece: &[u8], place: usize) -> Decision
-    requires { ⌜ (length (now held) ≤ 261) × (place ≤ length (now held) + length (now piece)) ⌝ }
+    requires { ⌜ place ≤ length (now held) + length (now piece) ⌝ }
     ensures { λ r. ⌜ (r ≡ decide reply (drop place (now (held .entry) ++ now (piece .entry)))) × (byte (drop place (now (held .entry) ++ now (piece .entry))) 4 ≤ 255) ⌝ }
 {
     let a = wire::least(place, held.len());

@@ -1,8 +1,6 @@
 // SOCKS4 and SOCKS4A (the memos): a reader for Response.
 ghost use mathlib.Core.Path.{_≡_};
 ghost use mathlib.Core.List.{_++_};
-ghost use Prim.Native.Nat.{_≤_};
-ghost use lib.ListN.{length};
 ghost use Rattle.protocol.specs.Replies.{responseVerdict, decide};
 ghost use Rattle.protocol.specs.declared.Reply.the-variants as Reply;
 use protocol::Decision;
@@ -31,7 +29,6 @@ fn response_verdict(vn: u8, cd: u8) -> Verdict
 
 // Response: a zero, a status, and six bytes more, which only BIND uses.
 pub fn read_response(held: &[u8], piece: &[u8]) -> Decision
-    requires { ⌜ length (now held) ≤ 261 ⌝ }
     ensures { λ r. ⌜ r ≡ decide Reply.Response (now (held .entry) ++ now (piece .entry)) ⌝ }
 {
     let p = two_at(held, piece, 0);

@@ -54,7 +54,6 @@ fn negotiation_verdict(sent: AuthMethod, ver: u8, method: u8) -> Verdict
 
 // NegotiationRes: the version and the method chosen, in answer to the method sent.
 pub fn read_negotiation_res(held: &[u8], piece: &[u8], sent: AuthMethod) -> Decision
-    requires { ⌜ length (now held) ≤ 261 ⌝ }
     ensures { λ r. ⌜ r ≡ decide (Reply.NegotiationRes sent) (now (held .entry) ++ now (piece .entry)) ⌝ }
 {
     let p = two_at(held, piece, 0);
@@ -78,7 +77,6 @@ fn authentication_verdict(ver: u8, status: u8) -> Verdict
 
 // AuthenticationRes: the version and a status.
 pub fn read_authentication_res(held: &[u8], piece: &[u8]) -> Decision
-    requires { ⌜ length (now held) ≤ 261 ⌝ }
     ensures { λ r. ⌜ r ≡ decide Reply.AuthenticationRes (now (held .entry) ++ now (piece .entry)) ⌝ }
 {
     let p = two_at(held, piece, 0);
@@ -132,7 +130,7 @@ fn rest_size(atyp: u8, len: u8) -> usize
 
 // Whether the bytes from a place to another are UTF-8.
 fn is_utf8_at(held: &[u8], piece: &[u8], from: usize, to: usize) -> bool
-    requires { ⌜ (length (now held) ≤ 261) × (from ≤ to) × (to ≤ length (now held ++ now piece)) ⌝ }
+    requires { ⌜ (from ≤ to) × (to ≤ length (now held ++ now piece)) ⌝ }
     ensures { λ r. ⌜ r ≡ isUtf8 (take (to - from) (drop from (now (held .entry) ++ now (piece .entry)))) ⌝ }
 {
     let n = held.len();
@@ -145,7 +143,7 @@ fn is_utf8_at(held: &[u8], piece: &[u8], from: usize, to: usize) -> bool
 
 // Whether the name at a place is UTF-8, where there is one.
 fn name_allowed(held: &[u8], piece: &[u8], at: usize, atyp: u8, len: u8) -> bool
-    requires { ⌜ (length (now held) ≤ 261) × (at ≡ 5) × (atyp ≡ 0x03 → at + len ≤ length (now held ++ now piece)) ⌝ }
+    requires { ⌜ (at ≡ 5) × (atyp ≡ 0x03 → at + len ≤ length (now held ++ now piece)) ⌝ }
     ensures { λ r. ⌜ r ≡ (not (eqb atyp 0x03) || isUtf8 (take len (drop at (now (held .entry) ++ now (piece .entry))))) ⌝ }
 {
     if atyp != 0x03 {
@@ -156,7 +154,7 @@ fn name_allowed(held: &[u8], piece: &[u8], at: usize, atyp: u8, len: u8) -> bool
 
 // How a whole ProxyRes is judged, whose name would stand at a place.
 fn proxy_verdict(held: &[u8], piece: &[u8], at: usize, rep: u8, atyp: u8, len: u8) -> Verdict
-    requires { ⌜ (length (now held) ≤ 261) × (at ≡ 5) × (atyp ≡ 0x03 → at + len ≤ length (now held ++ now piece)) ⌝ }
+    requires { ⌜ (at ≡ 5) × (atyp ≡ 0x03 → at + len ≤ length (now held ++ now piece)) ⌝ }
     ensures { λ r. ⌜ r ≡ proxyVerdict rep atyp (take len (drop at (now (held .entry) ++ now (piece .entry)))) ⌝ }
 {
     if name_allowed(held, piece, at, atyp, len) {
@@ -170,7 +168,7 @@ fn proxy_verdict(held: &[u8], piece: &[u8], at: usize, rep: u8, atyp: u8, len: u
 
 // A ProxyRes behind its first five bytes, whose type may stand.
 fn whole_at(held: &[u8], piece: &[u8], at: usize, rep: u8, atyp: u8, len: u8) -> Decision
-    requires { ⌜ (length (now held) ≤ 261) × (at ≡ 5) × (rep ≡ byte (now held ++ now piece) 1) × (atyp ≡ byte (now held ++ now piece) 3) × (len ≡ byte (now held ++ now piece) 4) ⌝ }
+    requires { ⌜ (at ≡ 5) × (rep ≡ byte (now held ++ now piece) 1) × (atyp ≡ byte (now held ++ now piece) 3) × (len ≡ byte (now held ++ now piece) 4) ⌝ }
     ensures { λ r. ⌜ r ≡ wholeAt (proxySize atyp len) (now (held .entry) ++ now (piece .entry)) ⌝ }
 {
     let p = bytes_at(held, piece, at, rest_size(atyp, len));
@@ -182,7 +180,7 @@ fn whole_at(held: &[u8], piece: &[u8], at: usize, rep: u8, atyp: u8, len: u8) ->
 
 // A ProxyRes from its type on, whose head may stand.
 fn type_at(held: &[u8], piece: &[u8], at: usize, rep: u8) -> Decision
-    requires { ⌜ (length (now held) ≤ 261) × (at ≡ 3) × (rep ≡ byte (now held ++ now piece) 1) ⌝ }
+    requires { ⌜ (at ≡ 3) × (rep ≡ byte (now held ++ now piece) 1) ⌝ }
     ensures { λ r. ⌜ r ≡ typeAt (now (held .entry) ++ now (piece .entry)) ⌝ }
 {
     let t = two_at(held, piece, at);
@@ -197,7 +195,6 @@ fn type_at(held: &[u8], piece: &[u8], at: usize, rep: u8) -> Decision
 
 // ProxyRes: the version, a status, a reserved byte, the address field, the port. Decided at 3 bytes, at 5, or whole.
 pub fn read_proxy_res(held: &[u8], piece: &[u8]) -> Decision
-    requires { ⌜ length (now held) ≤ 261 ⌝ }
     ensures { λ r. ⌜ r ≡ decide Reply.ProxyRes (now (held .entry) ++ now (piece .entry)) ⌝ }
 {
     let h = three_at(held, piece, 0);

@@ -1,11 +1,10 @@
 -- What is kept is within its limits, and what a reply makes due stands where it is said to stand.
 use Prim.Native.Nat.{ℕ, _+_, _≤_, min}
 use native.Mathlib.Omega.{arith}
-use mathlib.Core.Path.{_≡_, refl, sym, _∙_}
+use mathlib.Core.Path.{_≡_, sym, _∙_}
 use mathlib.Core.Bool.{Bool, true, false}
-use mathlib.Core.List.{List, []}
-use lib.ListN.{length, take, drop, length-take}
-use Rattle.protocol.specs.Client.{Kept}
+use mathlib.Core.List.{List}
+use lib.ListN.{length, drop, length-take}
 use Rattle.protocol.specs.declared.AuthMethod.the-variants.{NoAuth, UserPass, NoneAcceptable}
 use Rattle.protocol.specs.declared.Reply.{Reply}
 use Rattle.protocol.specs.declared.Reply.the-variants.{NegotiationRes, AuthenticationRes, ProxyRes, Response}
@@ -14,8 +13,8 @@ use Rattle.sending.specs.declared.Requests.{Requests}
 use Rattle.sending.specs.declared.Due.{Due}
 use Rattle.sending.specs.declared.Stage.{Stage}
 use Rattle.sending.specs.declared.Stage.the-variants.{Awaiting}
-use Rattle.sending.specs.Parts.{part, negotiationSize, authenticationSize, proxySize, authenticationOf, proxyOf, requestsOf, Limited}
-use Rattle.sending.specs.Due.{unlessGone, authenticationDue, proxyDue, dueAfter, authenticationFirst, dueFrom, stillDue}
+use Rattle.sending.specs.Parts.{part, negotiationSize, authenticationSize, proxySize, requestsOf, Limited}
+use Rattle.sending.specs.Due.{unlessGone, authenticationDue, dueAfter, authenticationFirst, dueFrom, stillDue}
 
 part-small : (bs : List ℕ) (from n most : ℕ) → length (part bs from (min n most)) ≤ most
 part-small bs from n most = omega (arith, length-take (min n most) (drop from bs))

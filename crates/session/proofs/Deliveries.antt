@@ -20,15 +20,13 @@ use Rattle.wire.proofs.Parts.{take-min}
 use Rattle.sending.specs.declared.Lengths.{Lengths}
 use Rattle.sending.specs.declared.Stage.{Stage}
 use Rattle.sending.specs.declared.Stage.the-variants.{Awaiting, Open, Failed}
-use Rattle.sending.specs.Stages.{SideFed, SideSession, viewAt, stageOf, rank}
-use Rattle.sending.specs.Parts.{part, requestsOf}
+use Rattle.sending.specs.Stages.{SideFed, viewAt, stageOf, rank}
+use Rattle.sending.specs.Parts.{part}
 use Rattle.sending.specs.Due.{stillDue}
 use Rattle.sending.proofs.Stages.{awaits}
 use Rattle.turns.specs.declared.Taken.{Taken}
 use Rattle.turns.specs.Turns.{keptIn, Takes}
 use Rattle.session.specs.declared.Session.{Session}
-use Rattle.session.specs.declared.Delivered.{Delivered}
-use Rattle.session.specs.declared.Ended.{Ended}
 use Rattle.session.specs.declared.Received.{Received}
 use Rattle.session.specs.Session.{sideOf, heldBytes, view, outcome}
 use Rattle.session.specs.Calls.{Call, Delivers, delivered, moves, takes, deliver, end, endedBy}

@@ -11,7 +11,7 @@ use Rattle.protocol.specs.Bytes.{byte}
 use Rattle.protocol.specs.declared.SocksError.the-variants.{ShortOutput, Settled}
 use Rattle.session.specs.declared.Session.{Session}
 use Rattle.session.specs.Session.{sideOf, view, roomAt}
-use Rattle.session.specs.Calls.{Call, refusal, takes, deliver}
+use Rattle.session.specs.Calls.{refusal, takes, deliver}
 use Rattle.session.specs.Hold.{HoldStays}
 use Rattle.talk.specs.Talk.{onward, heldBy, isOver}
 

@@ -13,7 +13,7 @@ use Rattle.reading.proofs.Reading.{too-few}
 use Rattle.sending.specs.declared.Lengths.{Lengths}
 use Rattle.sending.specs.declared.Stage.{Stage}
 use Rattle.sending.specs.declared.Stage.the-variants.{Awaiting, Open, Failed}
-use Rattle.sending.specs.Stages.{viewAt, rank}
+use Rattle.sending.specs.Stages.{rank}
 use Rattle.sending.specs.Due.{dueFrom}
 use Rattle.sending.proofs.Sending.{due-inside}
 use Rattle.sending.proofs.Stages.{awaits}

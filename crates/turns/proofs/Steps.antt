@@ -1,13 +1,10 @@
 -- What a turn does is what the talk does with the same bytes.
 use Prim.Native.Nat.{ℕ, _+_, _<_}
-use native.Mathlib.Nat.{add-zero, add-assoc}
 use native.Mathlib.Omega.{arith}
-use mathlib.Core.Path.{_≡_, refl, ap, sym, _∙_}
+use mathlib.Core.Path.{_≡_, refl, ap}
 use mathlib.Core.Bool.{Bool, true, false}
-use mathlib.Core.List.{List, [], _++_, append-nil}
-use lib.ListN.{length, take, drop}
-use lib.Seq.{drop-drop}
-use Rattle.protocol.specs.declared.AuthMethod.{AuthMethod}
+use mathlib.Core.List.{List}
+use lib.ListN.{drop}
 use Rattle.protocol.specs.declared.AuthMethod.the-variants.{NoAuth, UserPass, NoneAcceptable}
 use Rattle.protocol.specs.declared.Reply.{Reply}
 use Rattle.protocol.specs.declared.Reply.the-variants.{NegotiationRes, AuthenticationRes, ProxyRes, Response}
@@ -15,13 +12,13 @@ use Rattle.protocol.specs.declared.SocksError.{SocksError}
 use Rattle.protocol.specs.declared.Verdict.the-variants.{Good, Bad}
 use Rattle.protocol.specs.declared.Decision.the-variants.{Undecided, Decided}
 use Rattle.protocol.specs.Replies.{decide}
-use Rattle.protocol.specs.Client.{Kept, due, afterMethod, talkAt, client}
+use Rattle.protocol.specs.Client.{Kept, due, talkAt, client}
 use Rattle.sending.specs.declared.Lengths.{Lengths}
 use Rattle.sending.specs.declared.Stage.{Stage}
 use Rattle.sending.specs.declared.Stage.the-variants.{Awaiting, Open, Failed}
 use Rattle.sending.specs.Stages.{viewAt, rank}
 use Rattle.sending.specs.Parts.{part, negotiationSize, authenticationSize, proxySize}
-use Rattle.sending.specs.Due.{unlessGone, authenticationDue, dueAfter, dueFrom}
+use Rattle.sending.specs.Due.{unlessGone, dueAfter, dueFrom}
 use Rattle.turns.specs.Turns.{keptIn, onStage, Rests}
 use Rattle.talk.specs.Talk.{failed, ended, waiting, unmoved, sending, moving, feed}
 

@@ -18,13 +18,12 @@ use Rattle.protocol.specs.declared.Decision.{Decision}
 use Rattle.protocol.specs.declared.Decision.the-variants.{Undecided, Decided}
 use Rattle.protocol.specs.Bytes.{byte}
 use Rattle.protocol.specs.Replies.{decide}
-use Rattle.protocol.specs.Client.{Kept}
 use Rattle.protocol.proofs.Replies.{decided-within, undecided-by}
 use Rattle.sending.specs.declared.Lengths.{Lengths}
 use Rattle.sending.specs.declared.Due.{Due}
 use Rattle.sending.specs.declared.Stage.{Stage}
 use Rattle.sending.specs.declared.Stage.the-variants.{Awaiting, Open, Failed}
-use Rattle.sending.specs.Stages.{SideFed, viewAt, rank}
+use Rattle.sending.specs.Stages.{SideFed, rank}
 use Rattle.sending.specs.Parts.{part}
 use Rattle.sending.specs.Due.{dueAfter, dueJudged, dueFrom, stillDue}
 use Rattle.reading.specs.Fewest.{fewest}
@@ -32,9 +31,9 @@ use Rattle.reading.proofs.Reading.{too-few}
 use Rattle.sending.proofs.Sending.{still-after}
 use Rattle.sending.proofs.Stages.{awaits}
 use Rattle.turns.specs.declared.Turn.{Turn}
-use Rattle.turns.specs.Turns.{keptIn, onStage, dueTurn, turnBytes, goesOn, Rests, Turns, Worked}
+use Rattle.turns.specs.Turns.{keptIn, onStage, goesOn, Rests, Turns, Worked}
 use Rattle.turns.proofs.Steps.{stage-good, stage-bad, stage-rests, rank-falls}
-use Rattle.talk.specs.Talk.{failed, ended, unmoved, sending, moving}
+use Rattle.talk.specs.Talk.{sending, moving}
 use Rattle.talk.proofs.Feed.{same-fed}
 
 pub still-small : (e : Reply) → stillDue (Awaiting e) ≤ 775

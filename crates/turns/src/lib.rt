@@ -63,7 +63,7 @@ fn first(reply: Reply) -> Turn
 impl Turn {
     // A turn at a stage that waits for a reply.
     fn read(self, lengths: Lengths, reply: Reply, held: &[u8], piece: &[u8]) -> Turn
-        requires { ⌜ (length (now held) ≤ 261) × (self .place ≤ length (now held) + length (now piece)) × (self .sent + stillDue (Stage.Awaiting reply) ≤ 775) ⌝ }
+        requires { ⌜ (self .place ≤ length (now held) + length (now piece)) × (self .sent + stillDue (Stage.Awaiting reply) ≤ 775) ⌝ }
         ensures { λ r. ⌜ Turns lengths (Stage.Awaiting reply) (now (held .entry) ++ now (piece .entry)) (self .place) (self .sent) (r .stage) (r .place) (r .sent) (r .again) ⌝ }
     {
         match read_at(reply, held, piece, self.place) {
@@ -89,7 +89,7 @@ impl Turn {
 
     // A turn from wherever the delivery stands.
     fn next(self, lengths: Lengths, held: &[u8], piece: &[u8]) -> Turn
-        requires { ⌜ (length (now held) ≤ 261) × (self .place ≤ length (now held) + length (now piece)) × (self .sent + stillDue (self .stage) ≤ 775) ⌝ }
+        requires { ⌜ (self .place ≤ length (now held) + length (now piece)) × (self .sent + stillDue (self .stage) ≤ 775) ⌝ }
         ensures { λ r. ⌜ Turns lengths (self .stage) (now (held .entry) ++ now (piece .entry)) (self .place) (self .sent) (r .stage) (r .place) (r .sent) (r .again) ⌝ }
     {
         let stage = self.stage;
@@ -159,7 +159,6 @@ impl Turn {
 
 // Works through held bytes and a piece until the session waits, opens or fails: at most three replies.
 fn work(lengths: Lengths, reply: Reply, held: &[u8], piece: &[u8]) -> Turn
-    requires { ⌜ length (now held) ≤ 261 ⌝ }
     ensures { λ r. ⌜ Worked lengths reply (now (held .entry) ++ now (piece .entry)) (r .stage) (r .place) (r .sent) ⌝ }
 {
     let mut turn = first(reply);

@@ -3,7 +3,7 @@ use native.Mathlib.Omega.{arith}
 use lib.ListN.{length-append}
 use borrow.Author.Needs.{needs}
 use Rattle.protocol.specs.Utf8.{isUtf8}
-use Rattle.replies_v5.proofs.Parts.{part-two}
+use Rattle.wire.proofs.Parts.{part-two}
 use Rattle.replies_v5.proofs.is_utf8_at.Statement.{statement}
 use Rattle.replies_v5.proofs.is_utf8_at.Tie as tie
 
@@ -46,7 +46,7 @@ returns c =
     let args = start .args in
     let a = c .before .before .before .before .least in
     let b = c .before .before .before .least2 in
-    c .is-utf8-in-two .ensures ∙ ap isUtf8 (part-two (args .held .now) (args .piece .now) (args .from) (args .to) (a .result) (b .result) (start .pre .1) (a .ensures) (b .ensures))
+    c .is-utf8-in-two .ensures ∙ ap isUtf8 (part-two (args .held .now) (args .piece .now) (args .from) (args .to) (a .result) (b .result) (start .pre .0) (a .ensures) (b .ensures))
 
 pub is-utf8-at-spec : {M : Type 1} → statement M
 is-utf8-at-spec =

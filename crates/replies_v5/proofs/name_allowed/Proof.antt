@@ -22,9 +22,9 @@ add-is-utf8-at c = search needs
 is-utf8-at-requires : tie.Need-is-utf8-at-requires
 is-utf8-at-requires c κs =
     let pre = c .before .before .before .before .pre in
-    let inside = pre .2 (c .before .if1 .left) in
+    let inside = pre .1 (c .before .if1 .left) in
     let w = c .wide .ensures in
-    (pre .0, omega arith, omega arith)
+    (omega arith, omega arith)
 
 -- the part from a place to so many bytes behind it
 part : (bs : List ℕ) (at w len : ℕ) (r : Bool) → w ≡ len → r ≡ isUtf8 (take (at + w - at) (drop at bs)) → r ≡ isUtf8 (take len (drop at bs))

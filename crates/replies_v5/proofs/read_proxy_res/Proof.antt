@@ -20,7 +20,7 @@ type-at-requires c κs =
     let bs = args .held .now ++ args .piece .now in
     let p = c .before .before .before .three-at in
     let k = three-came bs 0 (p .result) (p .ensures) (c .before .before .if1 .taken) in
-    (c .before .before .before .before .before .before .pre, k .place, k .second)
+    (k .place, k .second)
 
 returns : tie.Need-returns
 unfolding decide

@@ -26,15 +26,15 @@ whole-at-requires c κs =
     let start = c .before .before .before .before .before .before in
     let bs = start .args .held .now ++ start .args .piece .now in
     let p = c .before .before .before .two-at in
-    let k = came bs (start .args .at) (p .result) (start .pre .1) (p .ensures) (c .before .before .if1 .taken) in
-    (start .pre .0, k .place, start .pre .2, k .first, k .second)
+    let k = came bs (start .args .at) (p .result) (start .pre .0) (p .ensures) (c .before .before .if1 .taken) in
+    (k .place, start .pre .1, k .first, k .second)
 
 returns : tie.Need-returns
 returns c =
     let start = c .before .before .before .before .before .before .before in
     let bs = start .args .held .now ++ start .args .piece .now in
     let p = c .before .before .before .before .two-at in
-    let k = came bs (start .args .at) (p .result) (start .pre .1) (p .ensures) (c .before .before .before .if1 .taken) in
+    let k = came bs (start .args .at) (p .result) (start .pre .0) (p .ensures) (c .before .before .before .if1 .taken) in
     type-passed bs (p .result) k (c .whole-at .result) (c .whole-at .ensures) (sym (c .before .before .type-allowed .ensures) ∙ c .before .if2 .taken)
 
 returns-2 : tie.Need-returns-2
@@ -42,7 +42,7 @@ returns-2 c =
     let start = c .before .before .before .before .before .before in
     let bs = start .args .held .now ++ start .args .piece .now in
     let p = c .before .before .before .two-at in
-    let k = came bs (start .args .at) (p .result) (start .pre .1) (p .ensures) (c .before .before .if1 .taken) in
+    let k = came bs (start .args .at) (p .result) (start .pre .0) (p .ensures) (c .before .before .if1 .taken) in
     cc (k .place, type-refused bs (p .result) k (sym (c .before .type-allowed .ensures) ∙ c .if2 .left))
 
 returns-3 : tie.Need-returns-3
@@ -50,7 +50,7 @@ returns-3 c =
     let start = c .before .before .before .before in
     let bs = start .args .held .now ++ start .args .piece .now in
     let p = c .before .two-at in
-    undecided 5 bs _ (two-short bs 3 (p .result) (p .ensures ∙ ap (twoAt bs) (start .pre .1)) (c .if1 .left))
+    undecided 5 bs _ (two-short bs 3 (p .result) (p .ensures ∙ ap (twoAt bs) (start .pre .0)) (c .if1 .left))
 
 pub type-at-spec : {M : Type 1} → statement M
 type-at-spec =

@@ -33,7 +33,7 @@ proxy-verdict-requires c κs =
     let rest = c .before .before .rest-size in
     let p = c .before .bytes-at in
     let k = bytes-came bs (args .at) (rest .result) (p .result) (p .ensures) (c .if1 .taken) in
-    (start .pre .0, start .pre .1, λ t. let n = named (args .atyp) (args .len) (rest .result) (rest .ensures .0) t in omega arith)
+    (start .pre .0, λ t. let n = named (args .atyp) (args .len) (rest .result) (rest .ensures .0) t in omega arith)
 
 -- the whole reply, over plain values: what `cc` and `omega` read is then short
 whole : (bs : List ℕ) (at rest rep atyp len place : ℕ) (v : Verdict)
@@ -53,7 +53,7 @@ returns c =
     let rest = c .before .before .before .rest-size in
     let p = c .before .before .bytes-at in
     whole bs (args .at) (rest .result) (args .rep) (args .atyp) (args .len) (p .result .at) (c .proxy-verdict .result)
-    (start .pre .1) (start .pre .2) (start .pre .3) (start .pre .4) (rest .ensures .0)
+    (start .pre .0) (start .pre .1) (start .pre .2) (start .pre .3) (rest .ensures .0)
     (bytes-came bs (args .at) (rest .result) (p .result) (p .ensures) (c .before .if1 .taken)) (c .proxy-verdict .ensures)
 
 returns-2 : tie.Need-returns-2
@@ -64,7 +64,7 @@ returns-2 c =
     let rest = c .before .before .rest-size in
     let p = c .before .bytes-at in
     let k = bytes-short bs (args .at) (rest .result) (p .result) (p .ensures) (c .if1 .left) in
-    let five = start .pre .1 in
+    let five = start .pre .0 in
     let e = rest .ensures .0 in
     undecided (proxySize (args .atyp) (args .len)) bs _ (omega arith)
 

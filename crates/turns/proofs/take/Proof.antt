@@ -39,9 +39,7 @@ slice-aggregate-work c =
     sym (held-long (start .args .n) (start .args .hold .now) (start .pre .0) (start .pre .1))
 
 work-requires : tie.Need-work-requires
-work-requires c κs =
-    let start = c .before .before .before .before .before in
-    omega (arith, held-long (start .args .n) (start .args .hold .now) (start .pre .0) (start .pre .1), start .pre .1)
+work-requires c κs = search needs
 
 due-from-requires : tie.Need-due-from-requires
 due-from-requires c κs = search needs

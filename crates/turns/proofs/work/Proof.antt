@@ -31,7 +31,7 @@ next-requires c κs =
     let a = start .args in
     let g = c .before .loop .inv .going in
     let i = g .inside in
-    (start .pre, omega (arith, i, length-append (a .held .now) (a .piece .now)), omega (arith, g .room, still-small (c .before .loop .inv .reply)))
+    (omega (arith, i, length-append (a .held .now) (a .piece .now)), omega (arith, g .room, still-small (c .before .loop .inv .reply)))
 
 loop-less : tie.Need-loop-less Inv-loop μ-loop
 loop-less c = search needs

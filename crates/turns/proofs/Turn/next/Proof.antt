@@ -14,7 +14,7 @@ enum-known-stage c = search needs
 read-requires : tie.Need-read-requires
 read-requires c κs =
     let p = c .before .before .before .before .before .pre in
-    (p .0, p .1, omega (arith, ap stillDue (c .before .stage .given .1), p .2))
+    (p .0, omega (arith, ap stillDue (c .before .stage .given .1), p .1))
 
 enum-told : tie.Need-enum-told
 enum-told c = search needs

@@ -34,7 +34,7 @@ add-t14 c =
     let start = c .before .before .before .before .before .before .before .before .before .before in
     let a = start .args in
     let p = start .pre in
-    record { fits = omega (arith, judged-small (a .lengths) (a .reply) (c .before .before .before .before .before .n .given .0 .1 .0) (c .before .before .before .due-judged .ensures), p .2) }
+    record { fits = omega (arith, judged-small (a .lengths) (a .reply) (c .before .before .before .before .before .n .given .0 .1 .0) (c .before .before .before .due-judged .ensures), p .1) }
 
 add-goes-on : tie.Need-add-goes-on
 add-goes-on c = search needs
