@@ -11,22 +11,22 @@ abbrev μ-loop : tie.MeasureT-loop
 μ-loop count seed single longest replies out₀ tally₀ left₀ out tally left = left
 
 all-replies-requires : tie.Need-all-replies-requires Inv-loop μ-loop
-all-replies-requires c κs = search needs
+all-replies-requires c κs = tt
 
 output-requires : tie.Need-output-requires Inv-loop μ-loop
-output-requires c κs = search needs
+output-requires c κs = tt
 
 loop-holds : tie.Need-loop-holds Inv-loop μ-loop
-loop-holds c = search needs
+loop-holds c = c .output .ensures
 
 slice-aggregate-run-one : tie.Need-slice-aggregate-run-one Inv-loop μ-loop
 slice-aggregate-run-one c = search needs
 
 slice-aggregate-run-one-2 : tie.Need-slice-aggregate-run-one-2 Inv-loop μ-loop
-slice-aggregate-run-one-2 c = search needs
+slice-aggregate-run-one-2 c = c .before .before .before .before .before .all-replies .ensures
 
 slice-aggregate-run-one-3 : tie.Need-slice-aggregate-run-one-3 Inv-loop μ-loop
-slice-aggregate-run-one-3 c = search needs
+slice-aggregate-run-one-3 c = c .before .before .before .before .loop .inv
 
 run-one-requires : tie.Need-run-one-requires Inv-loop μ-loop
 run-one-requires c κs = search needs
@@ -41,7 +41,7 @@ loop-again : tie.Need-loop-again Inv-loop μ-loop
 loop-again c = search needs
 
 returns : tie.Need-returns Inv-loop μ-loop
-returns c = search needs
+returns c = tt
 
 pub run-spec : {M : Type 1} → statement M
 run-spec =
