@@ -6,7 +6,7 @@ enum { OPEN = 0, WAITING = 255 };
 
 typedef struct {
     size_t held, first, authentication, proxy;
-    uint8_t stage, error, status, optimistic, hold[261], bytes[1024];
+    uint8_t stage, error, status, optimistic, started, hold[261], bytes[1024];
 } raw_session;
 
 typedef struct {

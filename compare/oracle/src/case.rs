@@ -1,4 +1,4 @@
-//! A case of `replay`: what an opening and its deliveries are given, and its bytes.
+//! A case of `replay`: what preparing, the start and the deliveries are given, and its bytes.
 
 pub const CREDENTIALS: u8 = 1;
 pub const LOCAL_LOOKUP: u8 = 2;

@@ -75,6 +75,8 @@ fn first_difference(replay: &str, cases: &[Case], planted: bool) -> Option<usize
 struct Figures {
     told: usize,
     overflows: usize,
+    refused: usize,
+    ahead: usize,
     single: usize,
     bytes: usize,
     most_sent: usize,
@@ -87,8 +89,11 @@ impl Figures {
         let asked = model::delivery_asks(case);
         let single = case.deliveries.iter().all(|d| lent(d.lent) < asked || d.piece.len() <= 1);
         let overflows = rust::overflows(case);
-        self.told += usize::from(rust::in_domain(case) && !overflows);
+        let short = lent(case.lent) < model::start_asks(case);
+        self.told += usize::from(rust::tells(case));
         self.overflows += usize::from(overflows);
+        self.refused += usize::from(line.open == 1);
+        self.ahead += usize::from(short && line.open != 1);
         self.single += usize::from(single);
         self.bytes += case.bytes().len();
         self.most_sent = self.most_sent.max(if case.version == 5 { line.sent.len() } else { 0 });
@@ -106,9 +111,12 @@ impl Figures {
         let statuses = self.statuses.iter().map(|(n, count)| format!("{n}: {count}"));
         format!(
             "{} told by the Rust too, {} by the model alone where the Rust ends with WouldOverflow\n\
+            {} whose start is refused with 1, {} that lend it as little and that preparing refuses\n\
             {} in pieces of one byte, {} bytes in all, at most {} sent over v5\noutcomes: {}\nstatuses: {}",
             self.told,
             self.overflows,
+            self.refused,
+            self.ahead,
             self.single,
             self.bytes,
             self.most_sent,

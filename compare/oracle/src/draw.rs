@@ -1,4 +1,5 @@
 //! Random numbers and texts.
+use std::net::Ipv4Addr;
 
 pub struct Random(u64);
 
@@ -67,7 +68,17 @@ impl Random {
         }
     }
 
+    // 0.0.0.x, and addresses beside it.
+    pub fn near_zero(&mut self) -> [u8; 4] {
+        let last = if self.once_in(2) { self.byte() } else { self.one_of(&[0, 0, 1, 255]) };
+        let [a, b, c] = [(); 3].map(|()| if self.once_in(8) { self.one_of(&[1, 255]) } else { 0 });
+        [a, b, c, last]
+    }
+
     pub fn ipv4(&mut self) -> String {
+        if self.once_in(8) {
+            return Ipv4Addr::from(self.near_zero()).to_string();
+        }
         let n = if self.once_in(12) { self.below(6) } else { 4 };
         (0..n).map(|_| self.number()).collect::<Vec<_>>().join(".")
     }

@@ -1,5 +1,6 @@
 //! The expected line of a case: the model's, held against the original where that can tell.
-//! A session that the original ends with `WouldOverflow` goes on here, as the RFCs have it: the model judges it.
+//! What leaves the comparison shows by what the original does. A session that it ends with `WouldOverflow` goes on here,
+//! as the RFCs have it: the model judges it. One whose v4 address announces a name is refused with 23.
 use crate::case::{Case, LOCAL_LOOKUP};
 use crate::model::{self, Line};
 use crate::rust::{self, Told};
@@ -42,6 +43,9 @@ pub fn expect(case: &Case) -> Result<Line, String> {
     if pieces.overflows() {
         return beyond(case, line, &pieces);
     }
+    if pieces.announces() {
+        return if line.open == 23 { Ok(line) } else { Err(words(&pieces)) };
+    }
     if differs(&line, &pieces) {
         return Err(words(&pieces));
     }
@@ -60,6 +64,6 @@ pub fn show(case: &Case) -> String {
         said(rust::in_pieces(case)),
         said(rust::in_bytes(case)),
         model::answer(case).text(),
-        rust::in_domain(case)
+        rust::tells(case)
     )
 }

@@ -3,9 +3,9 @@ use crate::case::*;
 use crate::draw::{EDGES, Random};
 use crate::model;
 
-// Output lent, enough and too little: to any v5 call, to a v4 opening, to a v4 delivery.
+// Output lent, enough and too little: to any v5 call, to a v4 start, to a v4 delivery.
 const CALL5: Lent = (&[778, 778, 779, 1024, 1025, 2047, 2048, 2049, 65535], &[0, 1, 261, 262, 263, 776, 777, 777]);
-const OPENING4: Lent = (&[1024, 1025, 2047, 2048, 2049, 65535], &[0, 262, 777, 778, 1022, 1023, 1023]);
+const START4: Lent = (&[1024, 1025, 2047, 2048, 2049, 65535], &[0, 262, 777, 778, 1022, 1023, 1023]);
 const DELIVERY4: Lent = (&[262, 262, 263, 777, 778, 1024, 2047, 2048, 2049, 65535], &[0, 1, 100, 260, 261, 261]);
 const NAMES: [usize; 18] = [0, 1, 2, 3, 11, 50, 100, 200, 251, 252, 253, 254, 255, 256, 257, 257, 300, 1000];
 const LONG_NAMES: [usize; 6] = [1013, 1014, 1015, 1016, 1017, 5000];
@@ -30,13 +30,13 @@ pub fn case(seed: u64, number: u64) -> Case {
 
 fn opening(r: &mut Random) -> Case {
     let version = if r.once_in(3) { 4 } else { 5 };
-    let (enough, short) = if version == 4 { OPENING4 } else { CALL5 };
+    let (enough, short) = if version == 4 { START4 } else { CALL5 };
     let n = r.one_of(&[0, 1, 1, 2, 3, 5, 7, 8]);
     Case {
         version,
         flags: flags(r),
         port: r.one_of(&[0, 1, 80, 255, 256, 443, 443, 65535]),
-        lent: if r.once_in(30) { r.one_of(short) } else { r.one_of(enough) },
+        lent: if r.once_in(12) { r.one_of(short) } else { r.one_of(enough) },
         host: host(r, version),
         user: credential(r),
         password: credential(r),
@@ -56,7 +56,10 @@ fn flags(r: &mut Random) -> u8 {
 }
 
 fn record(r: &mut Random) -> Record {
-    let address: [u8; 16] = if r.once_in(8) { [0; 16] } else { r.bytes(16).try_into().unwrap() };
+    let mut address: [u8; 16] = if r.once_in(8) { [0; 16] } else { r.bytes(16).try_into().unwrap() };
+    if r.once_in(4) {
+        address[..4].copy_from_slice(&r.near_zero());
+    }
     (r.one_of(&[4, 6, 6]), address)
 }
 

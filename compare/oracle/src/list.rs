@@ -5,8 +5,9 @@ use crate::expect::expect;
 use crate::{generate, model, rust};
 use std::collections::{BTreeMap, HashSet};
 use std::fs;
+use std::net::Ipv4Addr;
 
-const CASES: usize = 2300;
+const CASES: usize = 2780;
 // Random cases fill the list up, as far as they are small.
 const SMALL: usize = 500;
 
@@ -65,6 +66,12 @@ impl Case {
         self
     }
 
+    // One record more, of an address's first bytes; the others are used by family six alone.
+    fn record(mut self, family: u8, first: [u8; 4]) -> Case {
+        self.records.push((family, std::array::from_fn(|i| *first.get(i).unwrap_or(&1))));
+        self
+    }
+
     fn lent(mut self, lent: u16) -> Case {
         self.lent = lent;
         self
@@ -98,9 +105,9 @@ fn good(case: &Case) -> Vec<u8> {
     }
 }
 
-// The output that its opening and its deliveries ask.
+// The output that its start and its deliveries ask.
 fn asked(case: &Case) -> (u16, u16) {
-    (model::opening_asks(case) as u16, model::delivery_asks(case) as u16)
+    (model::start_asks(case) as u16, model::delivery_asks(case) as u16)
 }
 
 fn served(case: Case) -> Case {
@@ -110,28 +117,53 @@ fn served(case: Case) -> Case {
 
 // ---- openings
 
-// Each check alone and every set of them together, so that their order shows.
+// Each check alone and every set of them together, so that their order shows; the start's output enough, one byte too
+// short, and none.
 fn refusals(list: &mut List) {
-    let hosts: [&[u8]; 7] = [b"a", b"", b"[]", b"a b", b"::1", b"1.2.3.4", &[b'n'; 1015]];
+    let hosts: [&[u8]; 7] = [b"a", b"", b"[]", b"a b", b"::1", b"0.0.0.1", &[b'n'; 1015]];
     for version in [5, 4] {
+        let (start, delivery) = asked(&base(version));
         for host in hosts {
-            for rest in (0..16).filter(|rest| version == 5 || rest & 4 == 0) {
-                let mut case = base(version).host(host);
-                let (opening, delivery) = asked(&case);
-                case.lent = opening - (rest & 1);
-                if rest & 2 != 0 {
+            for rest in 0..24 {
+                let mut case = base(version).host(host).lent([start, start - 1, 0][rest / 8]);
+                if rest & 1 != 0 {
                     case.flags &= !PORT;
                 }
-                if rest & 4 != 0 {
-                    case = case.credentials(0, 256);
+                if rest & 2 != 0 {
+                    case = if version == 5 { case.credentials(0, 256) } else { case.record(4, [0, 0, 0, 1]) };
                 }
-                if rest & 8 != 0 {
+                if rest & 4 != 0 {
                     case = case.flag(LOCAL_LOOKUP);
                 }
                 if rest % 3 == 0 {
                     case = case.flag(END);
                 }
                 list.add(case.piece_lent(delivery, &[5, 0]).piece_lent(delivery - 1, b"lost"));
+            }
+        }
+    }
+}
+
+// A start that lends too little: what was prepared waits, whatever is delivered, and is not ended.
+fn not_started(list: &mut List) {
+    let cases = [
+        base(5),
+        base(5).credentials(1, 2),
+        base(5).credentials(255, 255).flag(OPTIMISTIC),
+        base(5).flag(LOCAL_LOOKUP).records("64"),
+        base(4),
+        base(4).host(b"1.2.3.4"),
+    ];
+    for case in cases {
+        let (start, delivery) = asked(&case);
+        let replies = good(&case);
+        for lent in [0, 262, start - 1] {
+            for flags in [0, END] {
+                let case = case.clone().lent(lent).flag(flags);
+                list.add(case.clone());
+                list.add(case.clone().piece_lent(delivery, b"").piece_lent(delivery - 1, b"").piece_lent(0, b""));
+                list.add(case.clone().piece_lent(delivery, &replies).piece_lent(delivery - 1, &replies));
+                list.add(case.piece_lent(0, b"lost").each_byte(&replies[..3]).piece_lent(delivery, b""));
             }
         }
     }
@@ -167,7 +199,7 @@ const HOSTS: &str = "
     :: : ::: ::1 1:: 1:2:3:4:5:6:7:8 1:2:3:4:5:6:7 1:2:3:4:5:6:7:: 1:2:3:4:5:6:7:8:: ::2:3:4:5:6:7:8 ::1:2:3:4:5:6:7:8
     1::2::3 12345:: g:: ::ffff:1.2.3.4 ::1.2.3.4 1:2:3:4:5:6:1.2.3.4 1:2:3:4:5:6:7:1.2.3.4 1:2:3:4:5::1.2.3.4
     1:2:3:4:5:6::1.2.3.4 ::01.2.3.4 ::1.2.3.4:5 fe80::1%1 ABCD:ef01:: 0000:0:00:000:0:0:0:0 00000:: a example.com
-    h-1.example. [example.com] 1.2.3.4:80 hello-world 2001:db8:0:0:1:0:0:1";
+    h-1.example. [example.com] 1.2.3.4:80 ::0.0.0.5 hello-world 2001:db8:0:0:1:0:0:1";
 
 fn host_texts(list: &mut List) {
     for text in HOSTS.split_whitespace() {
@@ -270,6 +302,32 @@ fn lookups(list: &mut List) {
                     list.add(served(base(version).host(host).flag(flags).records(records)));
                 }
             }
+        }
+    }
+}
+
+// Addresses that announce a name over v4, and those beside them: typed, in brackets, looked up.
+fn announcing(list: &mut List) {
+    let other = [192, 0, 2, 7];
+    let beside = [[0, 0, 0, 0], [0, 0, 1, 0], [0, 0, 1, 1], [0, 1, 0, 1], [1, 0, 0, 1]];
+    for first in [1, 9, 255].map(|x| [0, 0, 0, x]).into_iter().chain(beside) {
+        let text = Ipv4Addr::from(first).to_string();
+        for version in [4, 5] {
+            let typed = base(version).host(text.as_bytes());
+            let named = base(version).host(b"name").flag(LOCAL_LOOKUP);
+            let cases = [
+                typed.clone(),
+                typed.flag(LOCAL_LOOKUP).record(4, other),
+                base(version).host(format!("[{text}]").as_bytes()),
+                base(version).host(b"name").record(4, first),
+                named.clone().record(4, first),
+                named.clone().record(6, other).record(4, first),
+                named.clone().record(4, first).record(4, other),
+                named.clone().record(4, other).record(4, first),
+                named.clone().record(6, first).record(4, other),
+                named.record(6, first),
+            ];
+            cases.into_iter().for_each(|case| list.add(served(case)));
         }
     }
 }
@@ -440,6 +498,7 @@ fn cases() -> Vec<Case> {
     let parts = [
         bench,
         refusals,
+        not_started,
         outputs,
         host_bytes,
         host_texts,
@@ -448,6 +507,7 @@ fn cases() -> Vec<Case> {
         long_requests,
         ports,
         lookups,
+        announcing,
         method_replies,
         connect_replies,
         bound_names,
@@ -469,6 +529,7 @@ fn cases() -> Vec<Case> {
 pub fn write(dir: &str) -> Result<(), String> {
     let (mut stdin, mut stdout) = (vec![], String::new());
     let mut held: BTreeMap<String, usize> = BTreeMap::new();
+    let (mut refused, mut answered) = (0, 0);
     let cases = cases();
     for case in &cases {
         let line = expect(case)
@@ -477,6 +538,8 @@ pub fn write(dir: &str) -> Result<(), String> {
         stdout += &(line.text() + "\n");
         let outcome = line.outcome.map_or("waiting".into(), |n| format!("{n:2}"));
         *held.entry(format!("{outcome} {}", line.status)).or_default() += 1;
+        refused += usize::from(line.open == 1);
+        answered += usize::from(line.answers.contains(&22) || line.end == Some(22));
     }
     // a case that the program refuses, and what it must not reach
     stdout += &format!("bad case at {}\n", stdin.len());
@@ -486,6 +549,7 @@ pub fn write(dir: &str) -> Result<(), String> {
     saved.and_then(|()| fs::write(format!("{dir}/stdout"), &stdout)).map_err(|e| format!("{dir}: {e}"))?;
     let overflows = cases.iter().filter(|case| rust::overflows(case)).count();
     println!("{} cases, {} bytes, answers {} bytes", cases.len(), stdin.len(), stdout.len());
+    println!("{refused} whose start is refused with 1, {answered} that answer 22 behind it");
     println!("{overflows} that the Rust ends with WouldOverflow; outcome and status:");
     println!("{}", held.iter().map(|(what, n)| format!("{what}: {n}")).collect::<Vec<_>>().join(", "));
     Ok(())

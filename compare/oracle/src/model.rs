@@ -1,5 +1,5 @@
-//! Document 01 with request F-4 in plain Rust: what a case must answer, field by field. Written from their words, not
-//! from the original.
+//! Document 01 with requests F-4, F-7 and F-8 in plain Rust: what a case must answer, field by field. Written from
+//! their words, not from the original.
 use crate::case::*;
 use std::net::IpAddr;
 
@@ -51,12 +51,25 @@ fn looked_up(case: &Case) -> Option<IpAddr> {
     case.records.iter().map(address).find(|ip| case.version == 5 || ip.is_ipv4())
 }
 
+// The address asked for, typed or looked up; none means the name is sent.
+fn asked(case: &Case) -> Option<IpAddr> {
+    match address_text(strip(&case.host)) {
+        None if case.has(LOCAL_LOOKUP) => looked_up(case),
+        text => text,
+    }
+}
+
+// 0.0.0.x with x not zero: over v4 it announces a name.
+fn announces(ip: IpAddr) -> bool {
+    matches!(ip, IpAddr::V4(ip) if matches!(ip.octets(), [0, 0, 0, 1..=255]))
+}
+
 // ---- the output that a call asks
 
-// The longest requests of a v5 opening: greeting, credentials, connect.
+// The longest requests of a v5 session: greeting, credentials, connect.
 const OUTPUT5: usize = 3 + 513 + 262;
 
-pub fn opening_asks(case: &Case) -> usize {
+pub fn start_asks(case: &Case) -> usize {
     if case.version == 5 { OUTPUT5 } else { 1024 }
 }
 
@@ -66,13 +79,11 @@ pub fn delivery_asks(case: &Case) -> usize {
 
 // ---- Opening v5, Opening v4: the number of the first check that refuses, else 0
 
-fn check(case: &Case) -> u8 {
+fn prepare(case: &Case) -> u8 {
     let (v5, host) = (case.version == 5, strip(&case.host));
     let text = address_text(host);
     let lookup_fails = || case.has(LOCAL_LOOKUP) && looked_up(case).is_none();
-    if lent(case.lent) < opening_asks(case) {
-        1
-    } else if host.is_empty() {
+    if host.is_empty() {
         2
     } else if host.iter().any(|b| !(0x21..=0x7E).contains(b)) {
         3
@@ -86,20 +97,22 @@ fn check(case: &Case) -> u8 {
         6
     } else if text.is_none() && lookup_fails() {
         8
+    } else if !v5 && asked(case).is_some_and(announces) {
+        23
     } else {
         0
     }
 }
 
-// ---- v5 requests, v4 request
-
-// The address asked for; none means the name is sent.
-fn asked(case: &Case) -> Option<IpAddr> {
-    match address_text(strip(&case.host)) {
-        None if case.has(LOCAL_LOOKUP) => looked_up(case),
-        text => text,
+// Of both calls: preparing, and what it accepts is started.
+pub fn opening(case: &Case) -> u8 {
+    match prepare(case) {
+        0 if lent(case.lent) < start_asks(case) => 1,
+        number => number,
     }
 }
+
+// ---- v5 requests, v4 request
 
 fn method(case: &Case) -> u8 {
     if case.has(CREDENTIALS) { 2 } else { 0 }
@@ -203,7 +216,7 @@ enum Step {
     Expect(Reply),
 }
 
-// What an accepted opening sends and expects, in order.
+// What a started session sends and expects, in order.
 fn plan(case: &Case) -> Vec<Step> {
     use Step::*;
     if case.version == 4 {
@@ -252,11 +265,13 @@ fn machine(steps: &[Step], list: &[u8]) -> State {
 // ---- Delivery, End of stream, Tunnel
 
 pub fn answer(case: &Case) -> Line {
-    let open = check(case);
-    let steps = if open == 0 { plan(case) } else { vec![] };
+    let open = opening(case);
+    let started = open == 0;
+    let steps = if started { plan(case) } else { vec![] };
     let mut now = machine(&steps, &[]);
-    if open != 0 {
-        now.outcome = Some(open);
+    if !started {
+        // what only the start refused is prepared still
+        now.outcome = (open != 1).then_some(open);
     }
     let (mut joined, mut rests, mut answers) = (vec![], vec![], vec![]);
     for d in &case.deliveries {
@@ -264,6 +279,8 @@ pub fn answer(case: &Case) -> Line {
         let before = now.used;
         if now.outcome.is_some() {
             answers.push(16);
+        } else if !started {
+            answers.push(22);
         } else if !enough {
             answers.push(1);
         } else {
@@ -275,9 +292,12 @@ pub fn answer(case: &Case) -> Line {
             rests.extend(&d.piece[now.used - before..]);
         }
     }
-    let waits = now.outcome.is_none();
-    let end = case.has(END).then_some(if waits { 0 } else { 16 });
-    if waits && end.is_some() {
+    let end = case.has(END).then_some(match now.outcome {
+        Some(_) => 16,
+        None if started => 0,
+        None => 22,
+    });
+    if end == Some(0) {
         now.outcome = Some(9);
     }
     Line { rests, sent: now.sent, outcome: now.outcome, status: now.status, total: now.used, open, answers, end }

@@ -52,6 +52,12 @@ impl Told {
     pub fn overflows(&self) -> bool {
         self.outcome == Some(11)
     }
+
+    // Whether it asked v4 for 0.0.0.x, x not zero. By the 4A memo that announces a name, and none follows: the proxy
+    // would wait for it, so request F-8 refuses what the original sends.
+    pub fn announces(&self) -> bool {
+        matches!(self.sent[..], [4, _, _, _, 0, 0, 0, 1..=255, 0])
+    }
 }
 
 fn settled<T>(done: Poll<std::result::Result<T, socks::SocksError<()>>>) -> (Option<u8>, u8) {
@@ -117,7 +123,12 @@ pub fn overflows(case: &Case) -> bool {
     in_domain(case) && in_pieces(case).is_some_and(|told| told.overflows())
 }
 
-// Document 01's domain of the comparison, for openings that lend enough.
+// A case of the domain that is compared: F-4 and F-8 take others out of it.
+pub fn tells(case: &Case) -> bool {
+    in_domain(case) && in_pieces(case).is_some_and(|told| !told.overflows() && !told.announces())
+}
+
+// Document 01's domain of the comparison, but for a start that lends too little.
 pub fn in_domain(case: &Case) -> bool {
     let host = model::strip(&case.host);
     let lawful = |text: &[u8]| text.len() <= 255 && std::str::from_utf8(text).is_ok();
@@ -126,5 +137,5 @@ pub fn in_domain(case: &Case) -> bool {
         4 => host.len() <= 1014,
         _ => !case.has(CREDENTIALS) || lawful(&case.user) && lawful(&case.password),
     };
-    plain_host && case.has(PORT) && of_version && lent(case.lent) >= model::opening_asks(case)
+    plain_host && case.has(PORT) && of_version && model::opening(case) != 1
 }

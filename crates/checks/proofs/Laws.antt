@@ -12,11 +12,12 @@ use Rattle.protocol.specs.declared.Answer.{Answer}
 use Rattle.protocol.specs.declared.Port.{Port}
 use Rattle.protocol.specs.declared.Record.{Record}
 use Rattle.protocol.specs.declared.SocksConfig.{SocksConfig}
-use Rattle.protocol.specs.declared.SocksError.the-variants.{CredentialTooLong, IpV6}
+use Rattle.protocol.specs.declared.SocksError.the-variants.{CredentialTooLong, IpV6, AnnouncesName}
+use Rattle.protocol.specs.declared.Answer.the-variants.{Accepted}
 use Rattle.protocol.specs.Host.{strip}
 use Rattle.protocol.specs.AddressReading.{Destination, ipv4, ipv6, domain, destinationOf}
 use Rattle.protocol.specs.Requests.{kindOf}
-use Rattle.protocol.specs.Opening.{refuse, isEmpty, isName, isIpv6, isNone, firstRecord, firstFour, check5, check4}
+use Rattle.protocol.specs.Opening.{refuse, isEmpty, isName, isIpv6, isNone, isAnnouncing, firstRecord, firstFour, asked4, check5, check4}
 use Rattle.addresses.specs.declared.AddressText.{AddressText}
 use Rattle.addresses.specs.Answers.{addressText}
 use Rattle.checks.specs.Checks.{checkShared, checkName, checkBy5, checkBy4}
@@ -47,25 +48,27 @@ unfolding strip
 stripped-empty [] = refl
 stripped-empty (a ∷ h) = rw (ne-eqb (suc (length h)) 0 (λ e. absurd (omega arith)))
 
-module _ (text : List ℕ) (kind : AddressKind) (port : Port) (room : ℕ) (records : List Record) {name : Bool} (n : name ≡ isName (kindOf kind [])) where
-  pub checked5 : (config : SocksConfig) (user password : List ℕ) {none long : Bool} {named own r : Answer} → none ≡ isNone (firstRecord records) → named ≡ checkName name text 255 (config .«local_dns») none
+module _ (text : List ℕ) (kind : AddressKind) (port : Port) (records : List Record) {name : Bool} (n : name ≡ isName (kindOf kind [])) where
+  pub checked5 : (config : SocksConfig) (user password : List ℕ) {none long : Bool} {named own r : Answer} → none ≡ isNone (firstRecord records) → named ≡ checkName name text 255 (config .«local_dns») none Accepted
       → long ≡ (config .«proxy_auth» && (ltb 255 (length user) || ltb 255 (length password))) → own ≡ refuse long CredentialTooLong named
-      → r ≡ checkShared text port room 778 own → r ≡ checkBy5 room config text kind port user password records
+      → r ≡ checkShared text port own → r ≡ checkBy5 config text kind port user password records
   checked5 config user password f d l o e = e ∙ rw (o, d, l, f, n)
 
-  pub checked4 : (localDns : Bool) {none six : Bool} {named own r : Answer} → none ≡ isNone (firstFour records) → named ≡ checkName name text 1014 localDns none → six ≡ isIpv6 (kindOf kind [])
-      → own ≡ refuse six IpV6 named → r ≡ checkShared text port room 1024 own → r ≡ checkBy4 room localDns text kind port records
-  checked4 localDns f d s o e = e ∙ rw (o, d, s, f, n)
+  pub checked4 : (localDns announcing : Bool) {none six : Bool} {last named own r : Answer} → last ≡ refuse announcing AnnouncesName Accepted → none ≡ isNone (firstFour records)
+      → named ≡ checkName name text 1014 localDns none last → six ≡ isIpv6 (kindOf kind []) → own ≡ refuse six IpV6 named → r ≡ checkShared text port own
+      → r ≡ checkBy4 localDns text kind port records announcing
+  checked4 localDns announcing a f d s o e = e ∙ rw (o, d, a, s, f, n)
 
 -- ---- the checks of a host by what was read of it are those of protocol
 
-module _ (host : List ℕ) (port : Port) (room : ℕ) (records : List Record) {read : AddressText} (e : read ≡ addressText (destinationOf (strip host))) where
+module _ (host : List ℕ) (port : Port) (records : List Record) {read : AddressText} (e : read ≡ addressText (destinationOf (strip host))) where
   pub checks5 : (config : SocksConfig) (user password : List ℕ)
-      → checkBy5 room config (strip host) (read .kind) port user password records ≡ check5 room (record { config = config; host = host; port = port; user = user; password = password; records = records })
+      → checkBy5 config (strip host) (read .kind) port user password records ≡ check5 (record { config = config; host = host; port = port; user = user; password = password; records = records })
   unfolding check5
   checks5 config user password = rw (read-name host read e, stripped-empty host)
 
-  pub checks4 : (localDns : Bool) → checkBy4 room localDns (strip host) (read .kind) port records ≡ check4 room (record { localDns = localDns; host = host; port = port; records = records })
+  pub checks4 : (localDns : Bool)
+      → checkBy4 localDns (strip host) (read .kind) port records (isAnnouncing (asked4 localDns records (destinationOf (strip host)))) ≡ check4 (record { localDns = localDns; host = host; port = port; records = records })
   unfolding check4
   checks4 localDns =
       let v : isIpv6 (kindOf (read .kind) []) ≡ isIpv6 (destinationOf (strip host)) = ap (λ (t : AddressText). isIpv6 (kindOf (t .kind) [])) e ∙ ipv6-kind (destinationOf (strip host)) in

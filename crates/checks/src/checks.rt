@@ -1,4 +1,4 @@
-// The checks of an opening, in their order.
+// The checks of preparing, in their order.
 ghost use mathlib.Core.Path.{_≡_};
 ghost use mathlib.Core.Bool.{not, _&&_, _||_};
 ghost use mathlib.Core.List.{[]};
@@ -85,13 +85,10 @@ pub fn finds_no_four(chosen: Lookup) -> bool
     }
 }
 
-// What both versions refuse first, for an output of so many bytes of at least so many, ahead of what else an opening answers.
-fn check_shared(text: &[u8], port: Port, room: usize, least: usize, later: Answer) -> Answer
-    ensures { λ r. ⌜ r ≡ checkShared (now (text .entry)) port room least later ⌝ }
+// What both versions refuse first, ahead of what else preparing answers.
+fn check_shared(text: &[u8], port: Port, later: Answer) -> Answer
+    ensures { λ r. ⌜ r ≡ checkShared (now (text .entry)) port later ⌝ }
 {
-    if room < least {
-        return Answer::Refused(SocksError::ShortOutput);
-    }
     if text.len() == 0 {
         return Answer::Refused(SocksError::MissingHost);
     }
@@ -111,9 +108,17 @@ fn lookup_failed(wanted: bool, name: bool, none: bool) -> bool
     wanted && (name && none)
 }
 
-// What both versions refuse last: a name that no request takes, and one to be looked up that no record serves.
-fn check_name(name: bool, text: &[u8], most: usize, lookup: bool, none: bool) -> Answer
-    ensures { λ r. ⌜ r ≡ checkName name (now (text .entry)) most lookup none ⌝ }
+// What both versions refuse of a name, ahead of what else preparing answers: one that no request takes, and one to be looked up that no
+// record serves.
+fn check_name(
+    name: bool,
+    text: &[u8],
+    most: usize,
+    lookup: bool,
+    none: bool,
+    later: Answer,
+) -> Answer
+    ensures { λ r. ⌜ r ≡ checkName name (now (text .entry)) most lookup none later ⌝ }
 {
     if name_too_long(name, text, most) {
         return Answer::Refused(SocksError::HostTooLong);
@@ -121,7 +126,7 @@ fn check_name(name: bool, text: &[u8], most: usize, lookup: bool, none: bool) ->
     if lookup_failed(lookup, name, none) {
         return Answer::Refused(SocksError::DnsFailure);
     }
-    Answer::Accepted
+    later
 }
 
 fn refuse_if(test: bool, error: SocksError, later: Answer) -> Answer
@@ -133,7 +138,7 @@ fn refuse_if(test: bool, error: SocksError, later: Answer) -> Answer
     later
 }
 
-// The checks of a v5 opening, for a host without its brackets, what it is as address text, and an output of so many bytes.
+// The checks of preparing over v5, for a host without its brackets and what it is as address text.
 pub fn check5(
     config: SocksConfig,
     text: &[u8],
@@ -142,9 +147,8 @@ pub fn check5(
     user: &[u8],
     password: &[u8],
     chosen: Lookup,
-    room: usize,
 ) -> Answer
-    ensures { λ r. ⌜ r ≡ checkBy5 room config (now (text .entry)) kind port (now (user .entry)) (now (password .entry)) (recordsOf chosen) ⌝ }
+    ensures { λ r. ⌜ r ≡ checkBy5 config (now (text .entry)) kind port (now (user .entry)) (now (password .entry)) (recordsOf chosen) ⌝ }
 {
     let named = check_name(
         is_name(kind),
@@ -152,24 +156,33 @@ pub fn check5(
         255,
         config.local_dns,
         finds_none(chosen),
+        Answer::Accepted,
     );
     let long = credentials_too_long(config.proxy_auth, user, password);
     let own = refuse_if(long, SocksError::CredentialTooLong, named);
-    check_shared(text, port, room, 778, own)
+    check_shared(text, port, own)
 }
 
-// The checks of a v4 opening, in the same way.
+// The checks of preparing over v4, in the same way. announcing: whether what is asked for is an address that announces a name.
 pub fn check4(
     local_dns: bool,
     text: &[u8],
     kind: AddressKind,
     port: Port,
     chosen: Lookup,
-    room: usize,
+    announcing: bool,
 ) -> Answer
-    ensures { λ r. ⌜ r ≡ checkBy4 room «local_dns» (now (text .entry)) kind port (recordsOf chosen) ⌝ }
+    ensures { λ r. ⌜ r ≡ checkBy4 «local_dns» (now (text .entry)) kind port (recordsOf chosen) announcing ⌝ }
 {
-    let named = check_name(is_name(kind), text, 1014, local_dns, finds_no_four(chosen));
+    let last = refuse_if(announcing, SocksError::AnnouncesName, Answer::Accepted);
+    let named = check_name(
+        is_name(kind),
+        text,
+        1014,
+        local_dns,
+        finds_no_four(chosen),
+        last,
+    );
     let own = refuse_if(is_ipv6(kind), SocksError::IpV6, named);
-    check_shared(text, port, room, 1024, own)
+    check_shared(text, port, own)
 }

@@ -1,4 +1,4 @@
-// What a host is as address text, and how many records of a lookup's list an opening reads.
+// What a host is as address text, and how many records of a lookup's list preparing reads.
 ghost use mathlib.Core.Path.{_≡_};
 ghost use mathlib.Core.Bool.{_&&_, not, cond};
 ghost use mathlib.Core.List.{[]};
@@ -15,7 +15,7 @@ use addresses::AddressText;
 use protocol::AddressKind;
 use protocol::SocksConfig;
 
-// What a host stands for, read once for all that an opening does with it.
+// What a host stands for, read once for all that preparing does with it.
 pub fn read_host(host: &[u8]) -> AddressText
     ensures { λ r. ⌜ r ≡ addressText (destinationOf (strip (now (host .entry)))) ⌝ }
 {

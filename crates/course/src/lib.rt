@@ -1,4 +1,4 @@
-// A session from its opening over its deliveries to its end.
+// A session from its preparing and start over its deliveries to its end.
 ghost use mathlib.Core.Path.{_≡_};
 ghost use Prim.Native.Nat.{_-_, _≤_};
 ghost use mathlib.Core.Bool.{cond};
@@ -12,9 +12,11 @@ ghost use Rattle.numerals.specs.Added.{Adds};
 use cases::heads;
 use cases::heads::Head;
 use lines::Line;
+use protocol::Answer;
 use report::Results;
-use socks::Opened;
+use socks::Prepared;
 use socks::Session;
+use socks::Started;
 
 // room: the output that its version's deliveries ask. answer: the last call's. used: by all deliveries. sent: how many bytes were
 // kept of what all calls sent.
@@ -36,9 +38,8 @@ fn output() -> [u8; 2048]
     [0u8; 2048]
 }
 
-fn begin(s: &[u8], head: Head, out: &mut [u8]) -> Opened
+fn prepare(s: &[u8], head: Head) -> Prepared
     requires { ⌜ (Ordered head) × ((head .count ≤ 8) × (head .size ≤ length (now s))) ⌝ }
-    ensures { λ r. ⌜ r .sent ≤ length (now (out .exit)) ⌝ }
 {
     let flags = heads::byte_at(s, 1);
     let config = heads::config_of(flags);
@@ -47,20 +48,19 @@ fn begin(s: &[u8], head: Head, out: &mut [u8]) -> Opened
     let host = 8;
     let host_end = head.host;
     if heads::byte_at(s, 0) == 4 {
-        return owned_records::open4(
+        return owned_records::prepare4(
             config.local_dns,
             &s[host..host_end],
             port,
             list,
             head.count,
-            out,
         );
     }
     let user = host_end + 2;
     let user_end = head.user;
     let password = user_end + 2;
     let password_end = head.password;
-    owned_records::open5(
+    owned_records::prepare5(
         config,
         &s[host..host_end],
         port,
@@ -68,8 +68,23 @@ fn begin(s: &[u8], head: Head, out: &mut [u8]) -> Opened
         &s[password..password_end],
         list,
         head.count,
-        out,
     )
+}
+
+// What is prepared is started. A refused preparing answers for both.
+fn begin(prepared: Prepared, out: &mut [u8]) -> Started
+    ensures { λ r. ⌜ r .sent ≤ length (now (out .exit)) ⌝ }
+{
+    let answer = prepared.answer;
+    let session = prepared.session;
+    match answer {
+        Answer::Accepted => session.start(out),
+        Answer::Refused(error) => Started {
+            answer: Answer::Refused(error),
+            sent: 0,
+            session: session,
+        },
+    }
 }
 
 // The first n bytes of an output behind those that are kept of what was sent, if there is room.
@@ -89,15 +104,15 @@ fn open(s: &[u8], head: Head, line: Line, out: &mut [u8], kept: &mut [u8]) -> Co
     requires { ⌜ (Ordered head) × ((head .count ≤ 8) × ((head .size ≤ length (now s)) × (8192 ≤ length (now kept)))) ⌝ }
     ensures { λ r. ⌜ (r .line ≡ line) × (r .sent ≤ 8192) ⌝ }
 {
-    let opened = begin(s, head, out);
-    let answer = opened.answer;
-    let session = opened.session;
+    let started = begin(prepare(s, head), out);
+    let answer = started.answer;
+    let session = started.session;
     Course {
         session,
         room: heads::room_of(heads::byte_at(s, 0)),
         answer: report::answer_number(answer),
         used: 0,
-        sent: keep_sent(out, opened.sent, kept, 0),
+        sent: keep_sent(out, started.sent, kept, 0),
         line,
     }
 }

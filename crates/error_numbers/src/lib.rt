@@ -3,46 +3,50 @@ ghost use mathlib.Core.Path.{_≡_};
 ghost use Rattle.protocol.specs.Numbers.{number, status};
 use protocol::SocksError;
 
+struct Numbers {
+    number: u8,
+    status: u8,
+}
+
+// The status is 0.
+fn alone(number: u8) -> Numbers
+    ensures { λ r. ⌜ r ≡ record { number = number; status = 0 } ⌝ }
+{
+    Numbers { number, status: 0 }
+}
+
+fn numbers_of(error: SocksError) -> Numbers
+    ensures { λ r. ⌜ r ≡ record { number = number error; status = status error } ⌝ }
+{
+    match error {
+        SocksError::ShortOutput => alone(1),
+        SocksError::MissingHost => alone(2),
+        SocksError::HostByte => alone(3),
+        SocksError::MissingPort => alone(4),
+        SocksError::CredentialTooLong => alone(5),
+        SocksError::HostTooLong => alone(6),
+        SocksError::IpV6 => alone(7),
+        SocksError::DnsFailure => alone(8),
+        SocksError::UnexpectedEof => alone(9),
+        SocksError::Parsing => alone(10),
+        SocksError::Unsupported => alone(12),
+        SocksError::MethodMismatch => alone(13),
+        SocksError::Failed => alone(14),
+        SocksError::Command(status) => Numbers { number: 15, status },
+        SocksError::Settled => alone(16),
+        SocksError::OutOfOrder => alone(22),
+        SocksError::AnnouncesName => alone(23),
+    }
+}
+
 pub fn number(error: SocksError) -> u8
     ensures { λ r. ⌜ r ≡ number error ⌝ }
 {
-    match error {
-        SocksError::ShortOutput => 1,
-        SocksError::MissingHost => 2,
-        SocksError::HostByte => 3,
-        SocksError::MissingPort => 4,
-        SocksError::CredentialTooLong => 5,
-        SocksError::HostTooLong => 6,
-        SocksError::IpV6 => 7,
-        SocksError::DnsFailure => 8,
-        SocksError::UnexpectedEof => 9,
-        SocksError::Parsing => 10,
-        SocksError::Unsupported => 12,
-        SocksError::MethodMismatch => 13,
-        SocksError::Failed => 14,
-        SocksError::Command(status) => 15,
-        SocksError::Settled => 16,
-    }
+    numbers_of(error).number
 }
 
 pub fn status(error: SocksError) -> u8
     ensures { λ r. ⌜ r ≡ status error ⌝ }
 {
-    match error {
-        SocksError::ShortOutput => 0,
-        SocksError::MissingHost => 0,
-        SocksError::HostByte => 0,
-        SocksError::MissingPort => 0,
-        SocksError::CredentialTooLong => 0,
-        SocksError::HostTooLong => 0,
-        SocksError::IpV6 => 0,
-        SocksError::DnsFailure => 0,
-        SocksError::UnexpectedEof => 0,
-        SocksError::Parsing => 0,
-        SocksError::Unsupported => 0,
-        SocksError::MethodMismatch => 0,
-        SocksError::Failed => 0,
-        SocksError::Command(status) => status,
-        SocksError::Settled => 0,
-    }
+    numbers_of(error).status
 }

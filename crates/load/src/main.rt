@@ -14,8 +14,9 @@ use protocol::Outcome;
 use protocol::Port;
 use protocol::Record;
 use protocol::SocksConfig;
-use socks::Opened;
+use socks::Prepared;
 use socks::Session;
+use socks::Started;
 
 // What all handshakes so far came to, and the state that the next draw starts from.
 struct Tally {
@@ -82,12 +83,12 @@ fn settle(tally: Tally, session: Session) -> Tally
     }
 }
 
-// Delivers replies to an opened session, piece by piece.
-fn feed(from: Tally, opened: Opened, replies: &[u8], single: bool, out: &mut [u8]) -> Tally
-    requires { ⌜ (opened .sent ≤ length (now out)) × (length (now out) ≤ 1024) ⌝ }
+// Delivers replies to a started session, piece by piece.
+fn feed(from: Tally, started: Started, replies: &[u8], single: bool, out: &mut [u8]) -> Tally
+    requires { ⌜ (started .sent ≤ length (now out)) × (length (now out) ≤ 1024) ⌝ }
 {
-    let mut session = opened.session;
-    let mut tally = add(from, out, opened.sent, from.state);
+    let mut session = started.session;
+    let mut tally = add(from, out, started.sent, from.state);
     let mut at = 0;
     while at < replies.len() {
         let piece = draws::next_piece(tally.state, replies.len() - at, single);
@@ -116,28 +117,25 @@ fn no_records() -> [Record; 8] {
     [none; 8]
 }
 
-// The opening for a name, with a user and a password of one byte if there are credentials.
-fn begin(v5: bool, credentials: bool, name: &[u8], out: &mut [u8]) -> Opened
-    ensures { λ r. ⌜ r .sent ≤ length (now (out .exit)) ⌝ }
-{
+// A session prepared for a name, with a user and a password of one byte if there are credentials.
+fn prepare(v5: bool, credentials: bool, name: &[u8]) -> Prepared {
     if !v5 {
-        return owned_records::open4(false, name, Port::Given(443), no_records(), 0, out);
+        return owned_records::prepare4(false, name, Port::Given(443), no_records(), 0);
     }
     let config = SocksConfig {
         proxy_auth: credentials,
         local_dns: false,
         optimistic: false,
     };
-    owned_records::open5(
-        config,
-        name,
-        Port::Given(443),
-        b"a",
-        b"a",
-        no_records(),
-        0,
-        out,
-    )
+    owned_records::prepare5(config, name, Port::Given(443), b"a", b"a", no_records(), 0)
+}
+
+fn begin(v5: bool, credentials: bool, name: &[u8], out: &mut [u8]) -> Started
+    ensures { λ r. ⌜ r .sent ≤ length (now (out .exit)) ⌝ }
+{
+    let prepared = prepare(v5, credentials, name);
+    let session = prepared.session;
+    session.start(out)
 }
 
 // The replies that open a session: v5 with credentials, v5 without, v4.
@@ -208,11 +206,11 @@ fn run_one(tally: Tally, longest: &[u8], replies: &[u8], single: bool, out: &mut
         sent: tally.sent,
         sum: tally.sum,
     };
-    let opened = begin(choice.v5, choice.credentials, &longest[..n], out);
+    let started = begin(choice.v5, choice.credentials, &longest[..n], out);
     let part = replies_for(choice.v5, choice.credentials);
     let from = part.from;
     let to = part.to;
-    feed(drawn, opened, &replies[from..to], single, out)
+    feed(drawn, started, &replies[from..to], single, out)
 }
 
 fn run(count: u64, seed: u32, single: bool) -> Tally {

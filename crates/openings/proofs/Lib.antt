@@ -2,3 +2,4 @@ pub mod Targets
 pub mod KeptBy
 pub mod Accepting
 pub mod Records
+pub mod Called

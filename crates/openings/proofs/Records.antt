@@ -1,7 +1,7 @@
--- What an opening reads of its list of records is all that it asks of it.
+-- What preparing reads of its list of records is all that it asks of it.
 use Prim.Native.Nat.{ℕ, _<_, _^_}
 use native.Mathlib.Omega.{arith}
-use mathlib.Core.Path.{_≡_, refl, ap, _∙_, subst}
+use mathlib.Core.Path.{_≡_, refl, ap, _∙_}
 use mathlib.Core.Bool.{Bool, true, false, cond, not, _&&_, _||_}
 use mathlib.Core.List.{List}
 use lib.ListN.{length, take}
@@ -11,115 +11,93 @@ use Rattle.protocol.specs.declared.Record.{Record}
 use Rattle.protocol.specs.declared.Port.{Port}
 use Rattle.protocol.specs.declared.SocksConfig.{SocksConfig}
 use Rattle.protocol.specs.declared.SocksError.{SocksError}
-use Rattle.protocol.specs.declared.SocksError.the-variants.{ShortOutput, MissingHost, HostByte, MissingPort, CredentialTooLong, HostTooLong, IpV6, DnsFailure}
+use Rattle.protocol.specs.declared.SocksError.the-variants.{MissingHost, HostByte, MissingPort, CredentialTooLong, HostTooLong, IpV6, DnsFailure, AnnouncesName}
 use Rattle.protocol.specs.declared.Answer.{Answer}
 use Rattle.protocol.specs.declared.Answer.the-variants.{Accepted}
 use Rattle.protocol.specs.Host.{strip, allAllowed}
 use Rattle.protocol.specs.AddressReading.{Destination, ipv4, ipv6, domain, destinationOf}
-use Rattle.protocol.specs.Opening.{V5, V4, firstRecord, firstFour, refuse, isEmpty, isMissing, isName, isIpv6, isNone, check5, check4, Opening, v5, v4, Credentials, asked5, asked4, credentialsIf, portNumber, opening5, opening4}
+use Rattle.protocol.specs.Opening.{V5, V4, firstRecord, firstFour, refuse, isEmpty, isMissing, isName, isIpv6, isNone, isAnnouncing, check5, check4, Opening, v5, v4, Credentials, asked5, asked4, credentialsIf, portNumber, opening5, opening4}
 use Rattle.lookup.specs.declared.Lookup.{Lookup}
 use Rattle.lookup.specs.Chosen.{noneFound, chosenOf, recordsOf}
 use Rattle.lookup.proofs.Firsts.{first-chosen, four-chosen}
-use Rattle.session.specs.declared.Opened.{Opened}
 use Rattle.checks.specs.Lookups.{looksUp}
-use Rattle.session.specs.Calls.{Call, Opens, openBy, open5, open4}
+use Rattle.session.specs.declared.Prepared.{Prepared}
+use Rattle.session.specs.Calls.{preparedBy, prepare5, prepare4}
 
--- ---- an opening by its checks: what stands behind a refusal does not matter
+-- ---- preparing by its checks: what stands behind a refusal does not matter
 
-under : (b : Bool) (e : SocksError) (x x′ : Answer) (o o′ : Opening) (out : List ℕ)
-    → openBy x o out ≡ openBy x′ o′ out → openBy (refuse b e x) o out ≡ openBy (refuse b e x′) o′ out
-under true e x x′ o o′ out p = refl
-under false e x x′ o o′ out p = p
+under : (b : Bool) (e : SocksError) (x x′ : Answer) (o o′ : Opening)
+    → preparedBy x o ≡ preparedBy x′ o′ → preparedBy (refuse b e x) o ≡ preparedBy (refuse b e x′) o′
+under true e x x′ o o′ p = refl
+under false e x x′ o o′ p = p
 
-module _ (out : List ℕ) (rs : List Record) (port : ℕ) where
+module _ (rs : List Record) (port : ℕ) where
   -- the last two checks over v5, and what is asked
-  abbrev ends5 : List Record → Bool → Bool → Destination → Credentials → Bool → Call
+  abbrev ends5 : List Record → Bool → Bool → Destination → Credentials → Bool → Prepared
   ends5 q l long d c o =
-      openBy (refuse (isName d && long) HostTooLong (refuse (l && (isName d && isNone (firstRecord q))) DnsFailure Accepted))
-      (v5 c (asked5 l q d) port o) out
+      preparedBy (refuse (isName d && long) HostTooLong (refuse (l && (isName d && isNone (firstRecord q))) DnsFailure Accepted))
+      (v5 c (asked5 l q d) port o)
 
   abbrev read5 : Bool → Bool → Destination → List Record
   read5 l long d = recordsOf (chosenOf false noneFound (take (cond (l && (not long && isName d)) 1 0) rs))
 
   last5 : (l long : Bool) (d : Destination) (c : Credentials) (o : Bool) → ends5 (read5 l long d) l long d c o ≡ ends5 rs l long d c o
-  last5 l long (ipv4 bs) c o = nowhere l
-    where
-      nowhere : (l : Bool) → ends5 (read5 l long (ipv4 bs)) l long (ipv4 bs) c o ≡ ends5 rs l long (ipv4 bs) c o
-      nowhere true = refl
-      nowhere false = refl
-  last5 l long (ipv6 bs) c o = nowhere l
-    where
-      nowhere : (l : Bool) → ends5 (read5 l long (ipv6 bs)) l long (ipv6 bs) c o ≡ ends5 rs l long (ipv6 bs) c o
-      nowhere true = refl
-      nowhere false = refl
-  last5 false true (domain s) c o = refl
-  last5 false false (domain s) c o = refl
+  last5 true long (ipv4 bs) c o = refl
+  last5 false long (ipv4 bs) c o = refl
+  last5 true long (ipv6 bs) c o = refl
+  last5 false long (ipv6 bs) c o = refl
+  last5 false long (domain s) c o = refl
   last5 true true (domain s) c o = refl
   last5 true false (domain s) c o = rw (first-chosen rs)
 
-  -- the last two checks over v4, and what is asked
-  abbrev ends4 : List Record → Bool → Bool → Destination → Call
+  -- the last three checks over v4, and what is asked
+  abbrev ends4 : List Record → Bool → Bool → Destination → Prepared
   ends4 q l long d =
-      openBy (refuse (isName d && long) HostTooLong (refuse (l && (isName d && isNone (firstFour q))) DnsFailure Accepted))
-      (v4 (asked4 l q d) port) out
+      preparedBy (refuse (isName d && long) HostTooLong (refuse (l && (isName d && isNone (firstFour q))) DnsFailure (refuse (isAnnouncing (asked4 l q d)) AnnouncesName Accepted)))
+      (v4 (asked4 l q d) port)
 
   abbrev read4 : Bool → Bool → Destination → List Record
   read4 l long d = recordsOf (chosenOf true noneFound (take (cond (l && (not long && isName d)) 0xFFFFFFFFFFFFFFFF 0) rs))
 
   last4 : length rs < 2 ^ 64 → (l long : Bool) (d : Destination) → ends4 (read4 l long d) l long d ≡ ends4 rs l long d
-  last4 h l long (ipv4 bs) = nowhere l
-    where
-      nowhere : (l : Bool) → ends4 (read4 l long (ipv4 bs)) l long (ipv4 bs) ≡ ends4 rs l long (ipv4 bs)
-      nowhere true = refl
-      nowhere false = refl
-  last4 h l long (ipv6 bs) = nowhere l
-    where
-      nowhere : (l : Bool) → ends4 (read4 l long (ipv6 bs)) l long (ipv6 bs) ≡ ends4 rs l long (ipv6 bs)
-      nowhere true = refl
-      nowhere false = refl
-  last4 h false true (domain s) = refl
-  last4 h false false (domain s) = refl
+  last4 h true long (ipv4 bs) = refl
+  last4 h false long (ipv4 bs) = refl
+  last4 h true long (ipv6 bs) = refl
+  last4 h false long (ipv6 bs) = refl
+  last4 h false long (domain s) = refl
   last4 h true true (domain s) = refl
   last4 h true false (domain s) = rw (take-all 0xFFFFFFFFFFFFFFFF rs (omega arith), four-chosen rs)
 
--- ---- the openings over a list
+-- ---- preparing over a list
 
-module _ (config : SocksConfig) (host : List ℕ) (port : Port) (user password : List ℕ) (rs : List Record) (out : List ℕ) where
+module _ (config : SocksConfig) (host : List ℕ) (port : Port) (user password : List ℕ) (rs : List Record) where
   abbrev given5 : List Record → V5
   given5 q = record { config = config; host = host; port = port; user = user; password = password; records = q }
 
-  open5-reads : open5 (given5 (recordsOf (chosenOf false noneFound (take (cond (looksUp (config .«local_dns») host 255) 1 0) rs)))) out ≡ open5 (given5 rs) out
-  unfolding open5 check5 opening5
-  open5-reads =
-      under (ltb (length out) 778) ShortOutput _ _ _ _ out
-      (under (isEmpty host || isEmpty (strip host)) MissingHost _ _ _ _ out
-      (under (not (allAllowed (strip host))) HostByte _ _ _ _ out
-      (under (isMissing port) MissingPort _ _ _ _ out
-      (under (config .«proxy_auth» && (ltb 255 (length user) || ltb 255 (length password))) CredentialTooLong _ _ _ _ out
-      (last5 out rs (portNumber port) (config .«local_dns») (ltb 255 (length (strip host))) (destinationOf (strip host)) (credentialsIf (config .«proxy_auth») user password) (config .optimistic))))))
+  reads5 : prepare5 (given5 (recordsOf (chosenOf false noneFound (take (cond (looksUp (config .«local_dns») host 255) 1 0) rs)))) ≡ prepare5 (given5 rs)
+  unfolding prepare5 check5 opening5
+  reads5 =
+      under (isEmpty host || isEmpty (strip host)) MissingHost _ _ _ _
+      (under (not (allAllowed (strip host))) HostByte _ _ _ _
+      (under (isMissing port) MissingPort _ _ _ _
+      (under (config .«proxy_auth» && (ltb 255 (length user) || ltb 255 (length password))) CredentialTooLong _ _ _ _
+      (last5 rs (portNumber port) (config .«local_dns») (ltb 255 (length (strip host))) (destinationOf (strip host)) (credentialsIf (config .«proxy_auth») user password) (config .optimistic)))))
 
-  pub by-list5 : (m : ℕ) (c : Lookup) → m ≡ cond (looksUp (config .«local_dns») host 255) 1 0 → c ≡ chosenOf false noneFound (take m rs)
-      → (r : Opened) (out′ : List ℕ) → Opens (open5 (given5 (recordsOf c)) out) r out′ → Opens (open5 (given5 rs) out) r out′
-  by-list5 m c em ec r out′ p =
-      subst (λ (x : Call). Opens x r out′)
-      (ap (λ (l : Lookup). open5 (given5 (recordsOf l)) out) (ec ∙ ap (λ (k : ℕ). chosenOf false noneFound (take k rs)) em) ∙ open5-reads) p
+  pub by-list5 : (m : ℕ) (c : Lookup) → m ≡ cond (looksUp (config .«local_dns») host 255) 1 0 → c ≡ chosenOf false noneFound (take m rs) → prepare5 (given5 (recordsOf c)) ≡ prepare5 (given5 rs)
+  by-list5 m c em ec = ap (λ (l : Lookup). prepare5 (given5 (recordsOf l))) (ec ∙ ap (λ (k : ℕ). chosenOf false noneFound (take k rs)) em) ∙ reads5
 
-module _ (localDns : Bool) (host : List ℕ) (port : Port) (rs : List Record) (out : List ℕ) where
+module _ (localDns : Bool) (host : List ℕ) (port : Port) (rs : List Record) where
   abbrev given4 : List Record → V4
   given4 q = record { localDns = localDns; host = host; port = port; records = q }
 
-  open4-reads : length rs < 2 ^ 64 → open4 (given4 (recordsOf (chosenOf true noneFound (take (cond (looksUp localDns host 1014) 0xFFFFFFFFFFFFFFFF 0) rs)))) out ≡ open4 (given4 rs) out
-  unfolding open4 check4 opening4
-  open4-reads h =
-      under (ltb (length out) 1024) ShortOutput _ _ _ _ out
-      (under (isEmpty host || isEmpty (strip host)) MissingHost _ _ _ _ out
-      (under (not (allAllowed (strip host))) HostByte _ _ _ _ out
-      (under (isMissing port) MissingPort _ _ _ _ out
-      (under (isIpv6 (destinationOf (strip host))) IpV6 _ _ _ _ out
-      (last4 out rs (portNumber port) h localDns (ltb 1014 (length (strip host))) (destinationOf (strip host)))))))
+  reads4 : length rs < 2 ^ 64 → prepare4 (given4 (recordsOf (chosenOf true noneFound (take (cond (looksUp localDns host 1014) 0xFFFFFFFFFFFFFFFF 0) rs)))) ≡ prepare4 (given4 rs)
+  unfolding prepare4 check4 opening4
+  reads4 h =
+      under (isEmpty host || isEmpty (strip host)) MissingHost _ _ _ _
+      (under (not (allAllowed (strip host))) HostByte _ _ _ _
+      (under (isMissing port) MissingPort _ _ _ _
+      (under (isIpv6 (destinationOf (strip host))) IpV6 _ _ _ _
+      (last4 rs (portNumber port) h localDns (ltb 1014 (length (strip host))) (destinationOf (strip host))))))
 
-  pub by-list4 : (m : ℕ) (c : Lookup) → length rs < 2 ^ 64 → m ≡ cond (looksUp localDns host 1014) 0xFFFFFFFFFFFFFFFF 0 → c ≡ chosenOf true noneFound (take m rs)
-      → (r : Opened) (out′ : List ℕ) → Opens (open4 (given4 (recordsOf c)) out) r out′ → Opens (open4 (given4 rs) out) r out′
-  by-list4 m c h em ec r out′ p =
-      subst (λ (x : Call). Opens x r out′)
-      (ap (λ (l : Lookup). open4 (given4 (recordsOf l)) out) (ec ∙ ap (λ (k : ℕ). chosenOf true noneFound (take k rs)) em) ∙ open4-reads h) p
+  pub by-list4 : (m : ℕ) (c : Lookup) → length rs < 2 ^ 64 → m ≡ cond (looksUp localDns host 1014) 0xFFFFFFFFFFFFFFFF 0 → c ≡ chosenOf true noneFound (take m rs) → prepare4 (given4 (recordsOf c)) ≡ prepare4 (given4 rs)
+  by-list4 m c h em ec = ap (λ (l : Lookup). prepare4 (given4 (recordsOf l))) (ec ∙ ap (λ (k : ℕ). chosenOf true noneFound (take k rs)) em) ∙ reads4 h

@@ -1,13 +1,10 @@
-// What the openings of both versions share: what is asked for, and what an opening keeps and sends.
+// What preparing has in common over both versions: what is asked for, and what is kept.
 ghost use mathlib.Core.Path.{_≡_};
 ghost use mathlib.Core.Bool.{_&&_};
-ghost use Prim.Native.Nat.{_+_, _≤_};
-ghost use lib.ListN.{length, take};
 ghost use Rattle.protocol.specs.Opening.{portNumber};
-ghost use Rattle.wire.specs.Written.{Wrote};
 ghost use Rattle.session.specs.Calls.{nothingKept};
 ghost use Rattle.openings.specs.Asked.{recordText, askedText};
-ghost use Rattle.openings.specs.Begun.{goesFirst, openedWith};
+ghost use Rattle.openings.specs.Begun.{preparedWith};
 ghost use Rattle.protocol.specs.declared.Answer.the-variants as Answer;
 ghost use Rattle.sending.specs.declared.Stage.the-variants as Stage;
 use addresses::AddressText;
@@ -20,9 +17,8 @@ use protocol::SocksError;
 use sending::Lengths;
 use sending::Requests;
 use sending::Stage;
-use session::Opened;
+use session::Prepared;
 use session::Session;
-use wire::copy;
 
 fn recorded(found: Record) -> AddressText
     ensures { λ r. ⌜ r ≡ recordText found ⌝ }
@@ -67,14 +63,14 @@ pub fn port_number(port: Port) -> u16
     }
 }
 
-// What an opening comes to, beside the bytes of the requests that it keeps.
+// What preparing comes to, beside the bytes of the requests that are kept.
 pub struct Begun {
     pub answer: Answer,
     pub stage: Stage,
     pub lengths: Lengths,
 }
 
-// A refused opening keeps nothing.
+// Refused, nothing is kept.
 pub fn refuse(error: SocksError) -> Begun
     ensures { λ r. ⌜ r ≡ record { answer = Answer.Refused error; stage = Stage.Failed error; lengths = nothingKept .lengths } ⌝ }
 {
@@ -90,39 +86,19 @@ pub fn refuse(error: SocksError) -> Begun
     }
 }
 
-// How many bytes go at the opening.
-fn goes_first(lengths: Lengths) -> usize
-    requires { ⌜ lengths .first + lengths .authentication + lengths .proxy ≤ 1024 ⌝ }
-    ensures { λ r. ⌜ r ≡ goesFirst lengths ⌝ }
-{
-    if lengths.optimistic {
-        return lengths.first + lengths.authentication + lengths.proxy;
-    }
-    lengths.first
-}
-
-// What goes at the opening, copied from the bytes kept to the output's start.
-pub fn send_first(lengths: Lengths, bytes: &[u8], out: &mut [u8]) -> usize
-    requires { ⌜ (lengths .first + lengths .authentication + lengths .proxy ≤ 1024) × (length (now bytes) ≡ 1024) × (goesFirst lengths ≤ length (now out)) ⌝ }
-    ensures { λ r. ⌜ Wrote (now (out .entry)) 0 (take (goesFirst lengths) (now (bytes .entry))) r (now (out .exit)) ⌝ }
-{
-    let n = goes_first(lengths);
-    copy(out, 0, &bytes[..n])
-}
-
-// What an opening returns: its session is built here alone.
-pub fn opened(begun: Begun, bytes: [u8; 1024], sent: usize) -> Opened
-    ensures { λ r. ⌜ r ≡ openedWith begun bytes sent ⌝ }
+// What preparing returns: its session is built here alone.
+pub fn prepared(begun: Begun, bytes: [u8; 1024]) -> Prepared
+    ensures { λ r. ⌜ r ≡ preparedWith begun bytes ⌝ }
 {
     let answer = begun.answer;
     let stage = begun.stage;
     let lengths = begun.lengths;
     let hold = [0u8; 261];
-    Opened {
+    Prepared {
         answer: answer,
-        sent: sent,
         session: Session {
             stage: stage,
+            started: false,
             held: 0,
             hold: hold,
             requests: Requests {

@@ -1,6 +1,5 @@
 -- What an accepted opening over v4 writes and keeps.
 use Prim.Native.Nat.{ℕ}
-use native.Mathlib.Omega.{arith}
 use mathlib.Core.Path.{_≡_, refl, subst}
 use mathlib.Core.Bool.{false}
 use mathlib.Core.List.{List}
@@ -14,10 +13,11 @@ use Rattle.protocol.specs.Requests.{Destination4, address, name, request}
 use Rattle.protocol.specs.Opening.{v4, portNumber}
 use Rattle.wire.specs.Written.{Wrote}
 use Rattle.sending.specs.declared.Stage.the-variants.{Awaiting}
+use Rattle.session.specs.Calls.{preparedBy}
 use Rattle.openings.specs.Asked.{target4By}
-use Rattle.openings.specs.Begun.{Begins}
-use Rattle.openings.proofs.KeptBy.{keeps-one, zeros-size}
-use Rattle.openings.proofs.Accepting.{begins-accepted}
+use Rattle.openings.specs.Begun.{preparedWith}
+use Rattle.openings.proofs.KeptBy.{keeps-one}
+use Rattle.openings.proofs.Accepting.{prepares-accepted}
 
 -- ---- the Request, by the kind of what is asked for
 
@@ -34,8 +34,7 @@ asks port {n} {out} {out′} q w = subst (λ (d : Destination4). Wrote out 0 (re
 -- ---- an accepted opening
 
 pub accepts4 : (d : Destination4) (port : Port) {n i : ℕ} {zs bytes : List ℕ} → n ≡ portNumber port → zs ≡ replicate 1024 0 → Wrote zs 0 (request d n) i bytes
-    → Begins Accepted (v4 d (portNumber port)) 1024
-    (record { answer = Accepted; stage = Awaiting Response; lengths = record { optimistic = false; first = i; authentication = 0; proxy = 0 } }) bytes
+    → preparedWith (record { answer = Accepted; stage = Awaiting Response; lengths = record { optimistic = false; first = i; authentication = 0; proxy = 0 } }) bytes
+    ≡ preparedBy Accepted (v4 d (portNumber port))
 accepts4 d port {n} {i} {zs} {bytes} e z w =
-    let v : Wrote zs 0 (request d (portNumber port)) i bytes = subst (λ (p : ℕ). Wrote zs 0 (request d p) i bytes) e w in
-    begins-accepted (v4 d (portNumber port)) (omega (arith, v .inside, zeros-size z)) refl (keeps-one false z v)
+    prepares-accepted (v4 d (portNumber port)) refl (keeps-one false z (subst (λ (p : ℕ). Wrote zs 0 (request d p) i bytes) e w))

@@ -1,48 +1,34 @@
--- What an accepted opening over v5 writes and keeps, within its limits.
+-- What an accepted opening over v5 writes and keeps.
 use Prim.Native.Nat.{ℕ, _+_, _-_, _≤_}
 use native.Mathlib.Nat.{add-zero}
 use native.Mathlib.Omega.{arith}
 use mathlib.Core.Path.{_≡_, refl, ap, sym, _∙_, subst}
 use mathlib.Core.Bool.{Bool, true, false}
 use mathlib.Core.List.{List, []}
-use lib.ListN.{length, take, replicate, take-append-drop, length-take}
+use lib.ListN.{length, take, replicate, take-append-drop}
 use Rattle.protocol.specs.declared.AddressKind.{AddressKind}
 use Rattle.protocol.specs.declared.AddressKind.the-variants.{Ipv4, Ipv6, Domain}
 use Rattle.protocol.specs.declared.Answer.the-variants.{Accepted}
 use Rattle.protocol.specs.declared.AuthMethod.{AuthMethod}
-use Rattle.protocol.specs.declared.AuthMethod.the-variants.{NoAuth, UserPass}
 use Rattle.protocol.specs.declared.Port.{Port}
 use Rattle.protocol.specs.declared.Reply.the-variants.{NegotiationRes}
-use Rattle.protocol.specs.AddressReading.{Destination, ipv4, ipv6, domain}
+use Rattle.protocol.specs.AddressReading.{Destination}
 use Rattle.protocol.specs.Requests.{negotiationReq, proxyReq, kindOf}
-use Rattle.protocol.specs.Opening.{v5, credentialsIf, portNumber, Limits}
-use Rattle.protocol.proofs.Limits.{greeting-size, credentials-limit, connect-limit}
-use Rattle.addresses.specs.declared.AddressText.{AddressText}
+use Rattle.protocol.specs.Opening.{v5, credentialsIf, portNumber, firstReply}
+use Rattle.protocol.proofs.Limits.{greeting-size, credentials-limit}
 use Rattle.wire.specs.Written.{overwrite, Wrote}
 use Rattle.wire.proofs.Laws.{wrote-length}
 use Rattle.requests_v5.specs.Sizes.{addressSize}
 use Rattle.sending.specs.declared.Lengths.{Lengths}
 use Rattle.sending.specs.declared.Stage.the-variants.{Awaiting}
-use Rattle.session.specs.Calls.{keptWith, keptBy}
-use Rattle.openings.specs.Asked.{targetBy, target5}
-use Rattle.openings.specs.Begun.{methodOf, firstReply, Begins}
+use Rattle.session.specs.Calls.{keptWith, keptBy, preparedBy}
+use Rattle.openings.specs.Asked.{targetBy}
+use Rattle.openings.specs.Begun.{methodOf, preparedWith}
 use Rattle.openings.proofs.KeptBy.{keeps-three, zeros-size}
-use Rattle.openings.proofs.Accepting.{begins-accepted}
-use Rattle.openings_v5.specs.Accepted.{Short5, credentialsReq}
+use Rattle.openings.proofs.Accepting.{prepares-accepted}
+use Rattle.openings_v5.specs.Accepted.{credentialsReq}
 
 -- ---- sizes
-
-target-limit : (k : AddressKind) (bs text : List ℕ) (port : ℕ) → length bs ≡ 16 → (k ≡ Domain → length text ≤ 255) → length (proxyReq (targetBy k bs text) port) ≤ 262
-target-limit Ipv4 bs text port l h = connect-limit (ipv4 (take 4 bs)) port (omega (arith, length-take 4 bs))
-target-limit Ipv6 bs text port l h = connect-limit (ipv6 bs) port (omega arith)
-target-limit Domain bs text port l h = connect-limit (domain text) port (h refl)
-
-limits-short : (b : Bool) (u p : List ℕ) (t : AddressText) (text : List ℕ) (port : ℕ) (o : Bool) → length (t .bytes) ≡ 16 → Short5 b u p (t .kind) text
-    → Limits (v5 (credentialsIf b u p) (target5 t text) port o)
-limits-short false u p t text port o l s = (greeting-size NoAuth, target-limit (t .kind) (t .bytes) text port l (s .name))
-limits-short true u p t text port o l s =
-    let h = s .credentials refl in
-    (greeting-size UserPass, credentials-limit u p (h .0) (h .1), target-limit (t .kind) (t .bytes) text port l (s .name))
 
 credentials-size : (b : Bool) (u p : List ℕ) → (b ≡ true → (length u ≤ 255) × (length p ≤ 255)) → length (credentialsReq b u p) ≤ 513
 credentials-size true u p h = let k = h refl in credentials-limit u p (k .0) (k .1)
@@ -96,12 +82,10 @@ awaits-first : (b : Bool) (u p : List ℕ) (d : Destination) (port : ℕ) (o : B
 awaits-first true u p d port o = refl
 awaits-first false u p d port o = refl
 
-pub accepts5 : (b : Bool) (user password : List ℕ) (t : AddressText) (text : List ℕ) (port : Port) (o : Bool) {n : ℕ} {m : AuthMethod} {l : Lengths} {bytes : List ℕ}
-    → length (t .bytes) ≡ 16 → Short5 b user password (t .kind) text → n ≡ portNumber port → m ≡ methodOf b
-    → record { lengths = l; bytes = bytes } ≡ keptBy (v5 (credentialsIf b user password) (target5 t text) n o)
-    → Begins Accepted (v5 (credentialsIf b user password) (target5 t text) (portNumber port) o) 778 (record { answer = Accepted; stage = Awaiting (NegotiationRes m); lengths = l }) bytes
-accepts5 b user password t text port o {n} {m} {l} {bytes} h s e f k =
-    let d = target5 t text in
+pub accepts5 : (b : Bool) (user password : List ℕ) (d : Destination) (port : Port) (o : Bool) {n : ℕ} {m : AuthMethod} {l : Lengths} {bytes : List ℕ}
+    → n ≡ portNumber port → m ≡ methodOf b → record { lengths = l; bytes = bytes } ≡ keptBy (v5 (credentialsIf b user password) d n o)
+    → preparedWith (record { answer = Accepted; stage = Awaiting (NegotiationRes m); lengths = l }) bytes ≡ preparedBy Accepted (v5 (credentialsIf b user password) d (portNumber port) o)
+accepts5 b user password d port o e f k =
     let c = credentialsIf b user password in
-    begins-accepted (v5 c d (portNumber port) o) (limits-short b user password t text (portNumber port) o h s)
+    prepares-accepted (v5 c d (portNumber port) o)
     (ap (λ (a : AuthMethod). Awaiting (NegotiationRes a)) f ∙ ap Awaiting (awaits-first b user password d (portNumber port) o)) (k ∙ ap (λ (p : ℕ). keptBy (v5 c d p o)) e)

@@ -1,4 +1,4 @@
-// Opening a session over SOCKS5.
+// Preparing a session over SOCKS5.
 ghost use mathlib.Core.Path.{_≡_};
 ghost use mathlib.Core.Bool.{true, _&&_};
 ghost use Prim.Native.Nat.{_+_, _≤_};
@@ -12,9 +12,9 @@ ghost use Rattle.addresses.specs.Answers.{addressText};
 ghost use Rattle.lookup.specs.Chosen.{recordsOf};
 ghost use Rattle.checks.specs.Checks.{checkBy5};
 ghost use Rattle.wire.specs.Written.{Wrote};
-ghost use Rattle.session.specs.Calls.{keptBy, Opens, open5};
+ghost use Rattle.session.specs.Calls.{keptBy, preparedBy, prepare5};
 ghost use Rattle.openings.specs.Asked.{askedText, target5};
-ghost use Rattle.openings.specs.Begun.{methodOf, Begins};
+ghost use Rattle.openings.specs.Begun.{methodOf, preparedWith};
 ghost use Rattle.openings_v5.specs.Accepted.{Short5, credentialsReq};
 ghost use Rattle.protocol.specs.declared.Answer.the-variants as Answer;
 use addresses::AddressText;
@@ -36,7 +36,7 @@ use requests_v5::put_negotiation_req;
 use requests_v5::put_proxy_req;
 use sending::Lengths;
 use sending::Stage;
-use session::Opened;
+use session::Prepared;
 
 fn method_of(auth: bool) -> AuthMethod
     ensures { λ r. ⌜ r ≡ methodOf auth ⌝ }
@@ -114,7 +114,7 @@ fn accept(
     password: &[u8],
 ) -> Begun
     requires { ⌜ (now bytes ≡ replicate 1024 0) × Short5 (config .«proxy_auth») (now user) (now password) (asked .kind) (now text) ⌝ }
-    ensures { λ r. ⌜ Begins Answer.Accepted (v5 (credentialsIf (config .«proxy_auth») (now (user .entry)) (now (password .entry))) (target5 asked (now (text .entry))) (portNumber port) (config .optimistic)) 778 r (now (bytes .exit)) ⌝ }
+    ensures { λ r. ⌜ preparedWith r (now (bytes .exit)) ≡ preparedBy Answer.Accepted (v5 (credentialsIf (config .«proxy_auth») (now (user .entry)) (now (password .entry))) (target5 asked (now (text .entry))) (portNumber port) (config .optimistic)) ⌝ }
 {
     let lengths = keep(
         bytes,
@@ -132,7 +132,7 @@ fn accept(
     }
 }
 
-// The checks, and what an accepted opening keeps, for an output of so many bytes.
+// The checks, and what an accepted opening keeps.
 fn begin(
     bytes: &mut [u8],
     config: SocksConfig,
@@ -142,24 +142,23 @@ fn begin(
     user: &[u8],
     password: &[u8],
     chosen: Lookup,
-    room: usize,
 ) -> Begun
     requires { ⌜ now bytes ≡ replicate 1024 0 ⌝ }
-    ensures { λ r. ⌜ Begins (checkBy5 room config (strip (now (host .entry))) (read .kind) port (now (user .entry)) (now (password .entry)) (recordsOf chosen)) (v5 (credentialsIf (config .«proxy_auth») (now (user .entry)) (now (password .entry))) (target5 (askedText read (config .«local_dns» && chosen .found) (chosen .first)) (strip (now (host .entry)))) (portNumber port) (config .optimistic)) room r (now (bytes .exit)) ⌝ }
+    ensures { λ r. ⌜ preparedWith r (now (bytes .exit)) ≡ preparedBy (checkBy5 config (strip (now (host .entry))) (read .kind) port (now (user .entry)) (now (password .entry)) (recordsOf chosen)) (v5 (credentialsIf (config .«proxy_auth») (now (user .entry)) (now (password .entry))) (target5 (askedText read (config .«local_dns» && chosen .found) (chosen .first)) (strip (now (host .entry)))) (portNumber port) (config .optimistic)) ⌝ }
 {
     let text = host::strip_ipv6_brackets(host);
     let kind = read.kind;
     let first = chosen.first;
     let asked = openings::asked(read, openings::both(config.local_dns, chosen.found), first);
-    let answer = check5(config, text, kind, port, user, password, chosen, room);
+    let answer = check5(config, text, kind, port, user, password, chosen);
     match answer {
         Answer::Accepted => accept(bytes, config, text, asked, port, user, password),
         Answer::Refused(error) => openings::refuse(error),
     }
 }
 
-// An opening with what was read of the host, and the record chosen.
-fn open_chosen(
+// Preparing with what was read of the host, and the record chosen.
+fn prepare_chosen(
     config: SocksConfig,
     host: &[u8],
     read: AddressText,
@@ -167,44 +166,28 @@ fn open_chosen(
     user: &[u8],
     password: &[u8],
     chosen: Lookup,
-    out: &mut [u8],
-) -> Opened
-    ensures { λ r. ⌜ (read ≡ addressText (destinationOf (strip (now (host .entry)))) → Opens (open5 (record { config = config; host = now (host .entry); port = port; user = now (user .entry); password = now (password .entry); records = recordsOf chosen }) (now (out .entry))) r (now (out .exit))) ⌝ }
+) -> Prepared
+    ensures { λ r. ⌜ (read ≡ addressText (destinationOf (strip (now (host .entry)))) → r ≡ prepare5 (record { config = config; host = now (host .entry); port = port; user = now (user .entry); password = now (password .entry); records = recordsOf chosen })) ⌝ }
 {
     let mut bytes = [0u8; 1024];
-    let room = out.len();
-    let begun = begin(
-        &mut bytes,
-        config,
-        host,
-        read,
-        port,
-        user,
-        password,
-        chosen,
-        room,
-    );
-    let lengths = begun.lengths;
-    let sent = openings::send_first(lengths, &bytes, out);
-    openings::opened(begun, bytes, sent)
+    let begun = begin(&mut bytes, config, host, read, port, user, password, chosen);
+    openings::prepared(begun, bytes)
 }
 
-// Opens a session over SOCKS5: what it sends stands at the output's start, which has 778 bytes or more. A refused opening leaves the
-// output as it was.
+// Prepares a session over SOCKS5: all is checked and kept, and nothing is sent before its start.
 // Of the lookup's answers the first record is taken, and none is read unless a name is to be looked up.
-pub fn open(
+pub fn prepare(
     config: SocksConfig,
     host: &[u8],
     port: Port,
     user: &[u8],
     password: &[u8],
     records: &[Record],
-    out: &mut [u8],
-) -> Opened
-    ensures { λ r. ⌜ Opens (open5 (record { config = config; host = now (host .entry); port = port; user = now (user .entry); password = now (password .entry); records = now (records .entry) }) (now (out .entry))) r (now (out .exit)) ⌝ }
+) -> Prepared
+    ensures { λ r. ⌜ r ≡ prepare5 (record { config = config; host = now (host .entry); port = port; user = now (user .entry); password = now (password .entry); records = now (records .entry) }) ⌝ }
 {
     let read = read_host(host);
     let most = wanted5(config, host, read);
     let chosen = choose(records, most, false);
-    open_chosen(config, host, read, port, user, password, chosen, out)
+    prepare_chosen(config, host, read, port, user, password, chosen)
 }

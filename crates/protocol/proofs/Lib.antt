@@ -14,4 +14,5 @@ pub mod Client
 pub mod Sequences
 pub mod Examples
 pub mod Limits
+pub mod Announced
 pub mod Rooms

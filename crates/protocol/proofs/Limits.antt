@@ -1,4 +1,4 @@
--- F-4: each request of an accepted opening keeps to its limit, so that over v5 at most 778 bytes are sent in all; and no number is 11.
+-- F-4: each request of an accepted opening keeps to its limit, so that over v5 at most 778 bytes are sent in all; and no number is 0 or 11.
 use Prim.Native.Nat.{ℕ, _+_, _≤_, _<_}
 use native.Mathlib.Omega.{arith}
 use mathlib.Core.Path.{_≡_, refl, ap, _∙_}
@@ -7,7 +7,7 @@ use mathlib.Core.Option.{Option, none, some}
 use mathlib.Core.Bool.{Bool, true, false, cond}
 use mathlib.Core.List.{List, [], _∷_, _++_, List·Memᴰ·head}
 use lib.ListN.{length, take, drop, length-append, length-take}
-use lib.Dec.{leb}
+use lib.Dec.{leb, lit<}
 use borrow.Author.Tests.{leb-true, leb-false}
 use Rattle.protocol.specs.declared.AuthMethod.{AuthMethod}
 use Rattle.protocol.specs.declared.AuthMethod.the-variants.{NoAuth, UserPass, NoneAcceptable}
@@ -19,7 +19,7 @@ use Rattle.protocol.specs.declared.Verdict.the-variants.{Good, Bad}
 use Rattle.protocol.specs.declared.Decision.{Decision}
 use Rattle.protocol.specs.declared.Decision.the-variants.{Undecided, Decided}
 use Rattle.protocol.specs.declared.SocksError.{SocksError}
-use Rattle.protocol.specs.declared.SocksError.the-variants.{ShortOutput, MissingHost, HostByte, MissingPort, CredentialTooLong, HostTooLong, IpV6, DnsFailure, UnexpectedEof, Parsing, Unsupported, MethodMismatch, Failed, Command, Settled}
+use Rattle.protocol.specs.declared.SocksError.the-variants.{ShortOutput, MissingHost, HostByte, MissingPort, CredentialTooLong, HostTooLong, IpV6, DnsFailure, UnexpectedEof, Parsing, Unsupported, MethodMismatch, Failed, Command, Settled, OutOfOrder, AnnouncesName}
 use Rattle.protocol.specs.declared.Answer.{Answer}
 use Rattle.protocol.specs.declared.Answer.the-variants.{Accepted, Refused}
 use Rattle.protocol.specs.declared.Outcome.{Outcome}
@@ -30,8 +30,8 @@ use Rattle.protocol.specs.Numbers.{number, answerNumber, outcomeNumber}
 use Rattle.protocol.specs.Host.{strip}
 use Rattle.protocol.specs.AddressText.{Name}
 use Rattle.protocol.specs.AddressReading.{Destination, ipv4, ipv6, domain, destinationOf}
-use Rattle.protocol.specs.Requests.{negotiationReq, authenticationReq, addressField, proxyReq, address, name, request}
-use Rattle.protocol.specs.Opening.{V5, V4, recordFamily, firstRecord, unlessFour, firstFour, check5, check4, foundFour, asked4, opening4, Opening, v5, noAuth, userPass, asked5, orElse, credentialsIf, portNumber, opening5, replies, atOpening, later, v4, openingRoom, Limits, Sixteen}
+use Rattle.protocol.specs.Requests.{negotiationReq, authenticationReq, addressField, proxyReq, Destination4, address, name, request}
+use Rattle.protocol.specs.Opening.{V5, V4, recordFamily, firstRecord, unlessFour, firstFour, check5, check4, foundFour, asked4, opening4, Opening, v5, noAuth, userPass, asked5, orElse, credentialsIf, portNumber, opening5, replies, atOpening, later, v4, startRoom, Limits, Sixteen}
 use Rattle.protocol.specs.Replies.{decide}
 use Rattle.protocol.specs.Machine.{sends, reads, run, machine}
 use Rattle.protocol.proofs.Openings.{check5-just, check4-just}
@@ -97,11 +97,11 @@ limits-of true u p d port o h k = (
   connect-limit d port k,
 )
 
-pub limits5 : (room : ℕ) (a : V5) → Sixteen (a .records) → check5 room a ≡ Accepted → Limits (opening5 a)
+pub limits5 : (a : V5) → Sixteen (a .records) → check5 a ≡ Accepted → Limits (opening5 a)
 unfolding opening5
-limits5 room a x e =
-    let n = check5-just room a .accepts .0 (ap answerNumber e) in
-    let c = n .1 .1 .1 .1 in
+limits5 a x e =
+    let n = check5-just a .accepts .0 (ap answerNumber e) in
+    let c = n .1 .1 .1 in
     limits-of (a .config .«proxy_auth») (a .user) (a .password) _ (portNumber (a .port)) (a .config .optimistic) (c .0)
     (asked-short (a .config .«local_dns») (a .records) (strip (a .host)) x (c .1 .0))
 
@@ -128,27 +128,39 @@ four-short (r ∷ rs) = go (r .family) (four-short rs)
     go Four ih = omega (arith, length-take 4 (r .address))
     go Six ih = ih
 
-found-limit : (found : Option (List ℕ)) (s : List ℕ) (port : ℕ) → Four4 found → length s ≤ 1014 → length (request (foundFour found s) port) ≤ 1024
-found-limit none s port f h = name-limit s port h
-found-limit (some bs) s port f h = address-limit bs port f
+-- an address of at most four bytes, or a name of at most 1,014
+abbrev pub Short4 : Destination4 → Type 0
+Short4 (address bs) = length bs ≤ 4
+Short4 (name s) = length s ≤ 1014
 
-named-limit : (lookup : Bool) (rs : List Record) (s : List ℕ) (port : ℕ) → length s ≤ 1014 → length (request (cond lookup (foundFour (firstFour rs) s) (name s)) port) ≤ 1024
-named-limit true rs s port h = found-limit (firstFour rs) s port (four-short rs) h
-named-limit false rs s port h = name-limit s port h
+found-short4 : (found : Option (List ℕ)) (s : List ℕ) → Four4 found → length s ≤ 1014 → Short4 (foundFour found s)
+found-short4 none s f h = h
+found-short4 (some bs) s f h = f
 
-pub limits4 : (room : ℕ) (a : V4) → check4 room a ≡ Accepted → Limits (opening4 a)
-unfolding opening4
-limits4 room a e = go (destinationOf (strip (a .host))) refl
+named-short : (lookup : Bool) (rs : List Record) (s : List ℕ) → length s ≤ 1014 → Short4 (cond lookup (foundFour (firstFour rs) s) (name s))
+named-short true rs s h = found-short4 (firstFour rs) s (four-short rs) h
+named-short false rs s h = h
+
+pub asked4-short : (a : V4) → check4 a ≡ Accepted → Short4 (asked4 (a .localDns) (a .records) (destinationOf (strip (a .host))))
+asked4-short a e = go (destinationOf (strip (a .host))) refl
   where
-    go : (d : Destination) → destinationOf (strip (a .host)) ≡ d → length (request (asked4 (a .localDns) (a .records) d) (portNumber (a .port))) ≤ 1024
-    go (ipv4 bs) q = address-limit bs (portNumber (a .port)) (omega (arith, ipv4-length (strip (a .host)) bs q))
-    go (ipv6 bs) q = let n = check4-just room a .accepts .0 (ap answerNumber e) in absurd (n .1 .1 .1 .1 .0 (bs, ipv6-just (strip (a .host)) bs .0 q))
+    go : (d : Destination) → destinationOf (strip (a .host)) ≡ d → Short4 (asked4 (a .localDns) (a .records) d)
+    go (ipv4 bs) q = omega (arith, ipv4-length (strip (a .host)) bs q)
+    go (ipv6 bs) q = let n = check4-just a .accepts .0 (ap answerNumber e) in absurd (n .1 .1 .1 .0 (bs, ipv6-just (strip (a .host)) bs .0 q))
     go (domain m) q =
-        let n = check4-just room a .accepts .0 (ap answerNumber e) in
+        let n = check4-just a .accepts .0 (ap answerNumber e) in
         let k = domain-is (strip (a .host)) m q in
         let w : Name (strip (a .host)) = name-just (strip (a .host)) .0 (q ∙ ap domain k) in
-        let h : length (strip (a .host)) ≤ 1014 = at-most 1014 (length (strip (a .host))) (λ l. n .1 .1 .1 .1 .1 .0 (w, l)) in
-        named-limit (a .localDns) (a .records) m (portNumber (a .port)) (rw k h)
+        let h : length (strip (a .host)) ≤ 1014 = at-most 1014 (length (strip (a .host))) (λ l. n .1 .1 .1 .1 .0 (w, l)) in
+        named-short (a .localDns) (a .records) m (rw k h)
+
+request-limit : (d : Destination4) (port : ℕ) → Short4 d → length (request d port) ≤ 1024
+request-limit (address bs) port h = address-limit bs port h
+request-limit (name s) port h = name-limit s port h
+
+pub limits4 : (a : V4) → check4 a ≡ Accepted → Limits (opening4 a)
+unfolding opening4
+limits4 a e = request-limit _ (portNumber (a .port)) (asked4-short a e)
 
 -- ---- what is sent in all
 
@@ -181,37 +193,39 @@ unfolding machine
 sent-length o bs = omega (arith, run-length (replies o) (later o) (sends (atOpening o) []) 0 bs, sends-length (atOpening o) [])
 
 -- an opening whose requests keep to their limits sends at most 778 bytes over v5, and 1,024 over v4
-pub sent-within : (o : Opening) → Limits o → (bs : List ℕ) → length (machine o bs .sent) ≤ openingRoom o
+pub sent-within : (o : Opening) → Limits o → (bs : List ℕ) → length (machine o bs .sent) ≤ startRoom o
 sent-within (v5 noAuth d port true) l bs = omega (arith, sent-length (v5 noAuth d port true) bs, l .0, l .1)
 sent-within (v5 noAuth d port false) l bs = omega (arith, sent-length (v5 noAuth d port false) bs, l .0, l .1)
 sent-within (v5 (userPass u p) d port true) l bs = omega (arith, sent-length (v5 (userPass u p) d port true) bs, l .0, l .1, l .2)
 sent-within (v5 (userPass u p) d port false) l bs = omega (arith, sent-length (v5 (userPass u p) d port false) bs, l .0, l .1, l .2)
 sent-within (v4 d port) l bs = omega (arith, sent-length (v4 d port) bs, l)
 
--- ---- no number is 11
+-- ---- no number of a refusal or failure is 0 or 11
 
-never : (e : SocksError) → number e ≡ 11 → ⊥
-never ShortOutput q = omega arith
-never MissingHost q = omega arith
-never HostByte q = omega arith
-never MissingPort q = omega arith
-never CredentialTooLong q = omega arith
-never HostTooLong q = omega arith
-never IpV6 q = omega arith
-never DnsFailure q = omega arith
-never UnexpectedEof q = omega arith
-never Parsing q = omega arith
-never Unsupported q = omega arith
-never MethodMismatch q = omega arith
-never Failed q = omega arith
-never (Command s) q = omega arith
-never Settled q = omega arith
+pub number-is : (e : SocksError) → (0 < number e) × (number e ≡ 11 → ⊥)
+number-is ShortOutput = (lit< tt, λ q. omega arith)
+number-is MissingHost = (lit< tt, λ q. omega arith)
+number-is HostByte = (lit< tt, λ q. omega arith)
+number-is MissingPort = (lit< tt, λ q. omega arith)
+number-is CredentialTooLong = (lit< tt, λ q. omega arith)
+number-is HostTooLong = (lit< tt, λ q. omega arith)
+number-is IpV6 = (lit< tt, λ q. omega arith)
+number-is DnsFailure = (lit< tt, λ q. omega arith)
+number-is UnexpectedEof = (lit< tt, λ q. omega arith)
+number-is Parsing = (lit< tt, λ q. omega arith)
+number-is Unsupported = (lit< tt, λ q. omega arith)
+number-is MethodMismatch = (lit< tt, λ q. omega arith)
+number-is Failed = (lit< tt, λ q. omega arith)
+number-is (Command s) = (lit< tt, λ q. omega arith)
+number-is Settled = (lit< tt, λ q. omega arith)
+number-is OutOfOrder = (lit< tt, λ q. omega arith)
+number-is AnnouncesName = (lit< tt, λ q. omega arith)
 
 pub answer-not-11 : (x : Answer) → answerNumber x ≡ 11 → ⊥
 answer-not-11 Accepted q = omega arith
-answer-not-11 (Refused e) q = never e q
+answer-not-11 (Refused e) q = number-is e .1 q
 
 pub outcome-not-11 : (x : Outcome) → outcomeNumber x ≡ 11 → ⊥
 outcome-not-11 Waiting q = omega arith
 outcome-not-11 Open q = omega arith
-outcome-not-11 (Out.Failed e) q = never e q
+outcome-not-11 (Out.Failed e) q = number-is e .1 q

@@ -21,7 +21,7 @@ use Rattle.protocol.specs.Replies.{decide}
 use Rattle.talk.specs.Decision.{Verdict, Decision, undecided, decided, good, bad}
 use Rattle.talk.specs.Talk.{done, failed, Talk, stop, send, await, Side, Session, waiting, ended}
 
--- what a session keeps for later: whether all requests went at the opening, and the requests for credentials and connection
+-- what a session keeps for later: whether all requests go at the start, and the requests for credentials and connection
 pub record Kept : Type 0 where
   pub optimistic : Bool
   pub authentication : List ℕ
@@ -30,7 +30,7 @@ pub record Kept : Type 0 where
 abbrev pub ClientTalk : Type 0
 ClientTalk = Talk Reply Unit SocksError
 
--- plainly a request is sent when it is due; optimistically it went at the opening
+-- plainly a request is sent when it is due; optimistically it went at the start
 abbrev pub due : Bool → List ℕ → ClientTalk → ClientTalk
 due true q t = t
 due false q t = send q t
@@ -98,7 +98,14 @@ outcomeOf (waiting s held) = Waiting
 outcomeOf (ended (done x)) = Open
 outcomeOf (ended (failed e)) = Failed e
 
--- the output that a delivery must lend, told by the reply that is waited for
+-- the output that a start must lend, told by the reply that is waited for
+abbrev pub firstRoom : Reply → ℕ
+firstRoom (NegotiationRes m) = 778
+firstRoom AuthenticationRes = 778
+firstRoom ProxyRes = 778
+firstRoom Response = 1024
+
+-- and a delivery
 abbrev pub room : Reply → ℕ
 room (NegotiationRes m) = 778
 room AuthenticationRes = 778

@@ -49,8 +49,8 @@ run4 a bs (Refused e) = over4 a bs (fails (number e) (status e)) 0 []
 -- a case as the definitions have it
 abbrev pub computed : Case → Case
 computed (host h s d) = host h (strip h) (destinationOf (strip h))
-computed (over5 a bs r n q) = run5 a bs (check5 778 a)
-computed (over4 a bs r n q) = run4 a bs (check4 1024 a)
+computed (over5 a bs r n q) = run5 a bs (check5 a)
+computed (over4 a bs r n q) = run4 a bs (check4 a)
 
 -- plain openings, port 443: v5 without credentials, v5 with, v4
 abbrev pub open5 : List ℕ → V5

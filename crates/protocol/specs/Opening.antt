@@ -1,4 +1,4 @@
--- Document 01, "Opening v5" and "Opening v4": the arguments, the checks in their order, and what an accepted opening asks and expects.
+-- Document 01, "Opening v5" and "Opening v4", and F-7: the arguments, the checks of preparing in their order, and what an accepted opening asks and expects.
 use Prim.Native.Nat.{ℕ, _≤_, _<_}
 use mathlib.Core.Path.{_≡_}
 use mathlib.Core.Logic.{_↔_, _⊎_}
@@ -15,15 +15,16 @@ use Rattle.protocol.specs.declared.Family.the-variants.{Four, Six}
 use Rattle.protocol.specs.declared.Record.{Record}
 use Rattle.protocol.specs.declared.SocksConfig.{SocksConfig}
 use Rattle.protocol.specs.declared.SocksError.{SocksError}
-use Rattle.protocol.specs.declared.SocksError.the-variants.{ShortOutput, MissingHost, HostByte, MissingPort, CredentialTooLong, HostTooLong, IpV6, DnsFailure}
+use Rattle.protocol.specs.declared.SocksError.the-variants.{MissingHost, HostByte, MissingPort, CredentialTooLong, HostTooLong, IpV6, DnsFailure, AnnouncesName}
 use Rattle.protocol.specs.declared.Answer.{Answer}
 use Rattle.protocol.specs.declared.Answer.the-variants.{Accepted, Refused}
 use Rattle.protocol.specs.declared.Reply.{Reply}
 use Rattle.protocol.specs.declared.Reply.the-variants.{NegotiationRes, AuthenticationRes, ProxyRes, Response}
+use Rattle.protocol.specs.Bytes.{byte}
 use Rattle.protocol.specs.Host.{strip, allAllowed, Forbidden}
 use Rattle.protocol.specs.AddressText.{Ipv6 as Ipv6Text, Name}
 use Rattle.protocol.specs.AddressReading.{Destination, ipv4, ipv6, domain, destinationOf}
-use Rattle.protocol.specs.Requests.{negotiationReq, authenticationReq, proxyReq, Destination4, address, name, request}
+use Rattle.protocol.specs.Requests.{negotiationReq, authenticationReq, proxyReq, Destination4, address, name, request, Announces}
 
 -- ---- the arguments, without the output
 
@@ -59,7 +60,27 @@ unfoldable pub firstFour : List Record → Option (List ℕ)
 firstFour [] = none
 firstFour (r ∷ rs) = unlessFour (r .family) (r .address) (firstFour rs)
 
--- ---- the checks: 01's conditions in its order, each with its number, for an output of so many bytes
+-- ---- what is asked for: typed, looked up, or a name. What is refused needs a value here too, which nothing uses: a record that is not there, IPv6 text over v4.
+
+abbrev pub orElse : {A : Type 0} → Option A → A → A
+orElse none a = a
+orElse (some b) a = b
+
+abbrev pub asked5 : Bool → List Record → Destination → Destination
+asked5 lookup rs (ipv4 bs) = ipv4 bs
+asked5 lookup rs (ipv6 bs) = ipv6 bs
+asked5 lookup rs (domain s) = cond lookup (orElse (firstRecord rs) (domain s)) (domain s)
+
+abbrev pub foundFour : Option (List ℕ) → List ℕ → Destination4
+foundFour none s = name s
+foundFour (some bs) s = address bs
+
+abbrev pub asked4 : Bool → List Record → Destination → Destination4
+asked4 lookup rs (ipv4 bs) = address bs
+asked4 lookup rs (ipv6 bs) = address bs
+asked4 lookup rs (domain s) = cond lookup (foundFour (firstFour rs) s) (name s)
+
+-- ---- the checks of preparing: 01's conditions in its order but that on the output, which a start has (F-7), each with its number
 
 -- a condition, and the number with which it refuses
 pub record Condition : Type 1 where
@@ -70,10 +91,9 @@ abbrev pub _↣_ : Type 0 → ℕ → Condition
 _↣_ P n = record { Holds = P; number = n }
 
 infixr 6 _↣_
-abbrev pub conditions5 : ℕ → V5 → List Condition
-conditions5 room a =
-    ((room < 778) ↣ 1)
-    ∷ (((a .host ≡ []) ⊎ (strip (a .host) ≡ [])) ↣ 2)
+abbrev pub conditions5 : V5 → List Condition
+conditions5 a =
+    (((a .host ≡ []) ⊎ (strip (a .host) ≡ [])) ↣ 2)
     ∷ (Forbidden (strip (a .host)) ↣ 3)
     ∷ ((a .port ≡ Missing) ↣ 4)
     ∷ (((a .config .«proxy_auth» ≡ true) × ((255 < length (a .user)) ⊎ (255 < length (a .password)))) ↣ 5)
@@ -81,15 +101,15 @@ conditions5 room a =
     ∷ (((a .config .«local_dns» ≡ true) × Name (strip (a .host)) × (firstRecord (a .records) ≡ none)) ↣ 8)
     ∷ []
 
-abbrev pub conditions4 : ℕ → V4 → List Condition
-conditions4 room a =
-    ((room < 1024) ↣ 1)
-    ∷ (((a .host ≡ []) ⊎ (strip (a .host) ≡ [])) ↣ 2)
+abbrev pub conditions4 : V4 → List Condition
+conditions4 a =
+    (((a .host ≡ []) ⊎ (strip (a .host) ≡ [])) ↣ 2)
     ∷ (Forbidden (strip (a .host)) ↣ 3)
     ∷ ((a .port ≡ Missing) ↣ 4)
     ∷ (((bs : List ℕ) × Ipv6Text (strip (a .host)) bs) ↣ 7)
     ∷ ((Name (strip (a .host)) × (1014 < length (strip (a .host)))) ↣ 6)
     ∷ (((a .localDns ≡ true) × Name (strip (a .host)) × (firstFour (a .records) ≡ none)) ↣ 8)
+    ∷ (((bs : List ℕ) × (asked4 (a .localDns) (a .records) (destinationOf (strip (a .host))) ≡ address bs) × Announces bs) ↣ 23)
     ∷ []
 
 -- none holds
@@ -133,25 +153,32 @@ abbrev pub isNone : {A : Type 0} → Option A → Bool
 isNone none = true
 isNone (some a) = false
 
-unfoldable pub check5 : ℕ → V5 → Answer
-check5 room a =
-    refuse (ltb room 778) ShortOutput
-    (refuse (isEmpty (a .host) || isEmpty (strip (a .host))) MissingHost
+-- whether four bytes announce a name, and whether what is asked for is an address that does
+unfoldable pub announces : List ℕ → Bool
+announces ip = eqb (length ip) 4 && (eqb (byte ip 0) 0 && (eqb (byte ip 1) 0 && (eqb (byte ip 2) 0 && ltb 0 (byte ip 3))))
+
+abbrev pub isAnnouncing : Destination4 → Bool
+isAnnouncing (address bs) = announces bs
+isAnnouncing (name s) = false
+
+unfoldable pub check5 : V5 → Answer
+check5 a =
+    refuse (isEmpty (a .host) || isEmpty (strip (a .host))) MissingHost
     (refuse (not (allAllowed (strip (a .host)))) HostByte
     (refuse (isMissing (a .port)) MissingPort
     (refuse (a .config .«proxy_auth» && (ltb 255 (length (a .user)) || ltb 255 (length (a .password)))) CredentialTooLong
     (refuse (isName (destinationOf (strip (a .host))) && ltb 255 (length (strip (a .host)))) HostTooLong
-    (refuse (a .config .«local_dns» && (isName (destinationOf (strip (a .host))) && isNone (firstRecord (a .records)))) DnsFailure Accepted))))))
+    (refuse (a .config .«local_dns» && (isName (destinationOf (strip (a .host))) && isNone (firstRecord (a .records)))) DnsFailure Accepted)))))
 
-unfoldable pub check4 : ℕ → V4 → Answer
-check4 room a =
-    refuse (ltb room 1024) ShortOutput
-    (refuse (isEmpty (a .host) || isEmpty (strip (a .host))) MissingHost
+unfoldable pub check4 : V4 → Answer
+check4 a =
+    refuse (isEmpty (a .host) || isEmpty (strip (a .host))) MissingHost
     (refuse (not (allAllowed (strip (a .host)))) HostByte
     (refuse (isMissing (a .port)) MissingPort
     (refuse (isIpv6 (destinationOf (strip (a .host)))) IpV6
     (refuse (isName (destinationOf (strip (a .host))) && ltb 1014 (length (strip (a .host)))) HostTooLong
-    (refuse (a .localDns && (isName (destinationOf (strip (a .host))) && isNone (firstFour (a .records)))) DnsFailure Accepted))))))
+    (refuse (a .localDns && (isName (destinationOf (strip (a .host))) && isNone (firstFour (a .records)))) DnsFailure
+    (refuse (isAnnouncing (asked4 (a .localDns) (a .records) (destinationOf (strip (a .host))))) AnnouncesName Accepted))))))
 
 -- ---- what an accepted opening asks
 
@@ -164,29 +191,10 @@ pub data Opening : Type 0 where
   v5 : Credentials → Destination → ℕ → Bool → Opening
   v4 : Destination4 → ℕ → Opening
 
--- What is refused needs a value here too, which nothing uses: a missing port, a record that is not there, IPv6 text over v4.
+-- a missing port is refused, and this value used by nothing
 abbrev pub portNumber : Port → ℕ
 portNumber Missing = 0
 portNumber (Given p) = p
-
-abbrev pub orElse : {A : Type 0} → Option A → A → A
-orElse none a = a
-orElse (some b) a = b
-
--- typed, looked up, or a name
-abbrev pub asked5 : Bool → List Record → Destination → Destination
-asked5 lookup rs (ipv4 bs) = ipv4 bs
-asked5 lookup rs (ipv6 bs) = ipv6 bs
-asked5 lookup rs (domain s) = cond lookup (orElse (firstRecord rs) (domain s)) (domain s)
-
-abbrev pub foundFour : Option (List ℕ) → List ℕ → Destination4
-foundFour none s = name s
-foundFour (some bs) s = address bs
-
-abbrev pub asked4 : Bool → List Record → Destination → Destination4
-asked4 lookup rs (ipv4 bs) = address bs
-asked4 lookup rs (ipv6 bs) = address bs
-asked4 lookup rs (domain s) = cond lookup (foundFour (firstFour rs) s) (name s)
 
 abbrev pub credentialsIf : Bool → List ℕ → List ℕ → Credentials
 credentialsIf true user password = userPass user password
@@ -213,11 +221,17 @@ replies (v5 noAuth d port o) = NegotiationRes NoAuth ∷ ProxyRes ∷ []
 replies (v5 (userPass u p) d port o) = NegotiationRes UserPass ∷ AuthenticationRes ∷ ProxyRes ∷ []
 replies (v4 d port) = Response ∷ []
 
+-- the reply that is awaited first
+abbrev pub firstReply : Opening → Reply
+firstReply (v5 noAuth d port o) = NegotiationRes NoAuth
+firstReply (v5 (userPass u p) d port o) = NegotiationRes UserPass
+firstReply (v4 d port) = Response
+
 abbrev pub optimistic : Opening → Bool
 optimistic (v5 c d port o) = o
 optimistic (v4 d port) = false
 
--- what goes at the opening: the first request, or all; and what goes later
+-- what goes at the opening, which is at its start: the first request, or all; and what goes later
 abbrev pub atOpening : Opening → List (List ℕ)
 atOpening o = cond (optimistic o) (requests o) (take 1 (requests o))
 
@@ -226,10 +240,10 @@ later o = cond (optimistic o) [] (drop 1 (requests o))
 
 -- ---- F-4: each request has a limit of its own
 
--- the output that an opening must lend, by the version: what its requests have at most
-abbrev pub openingRoom : Opening → ℕ
-openingRoom (v5 c d port o) = 778
-openingRoom (v4 d port) = 1024
+-- the output that a start must lend, by the version: what the requests have at most
+abbrev pub startRoom : Opening → ℕ
+startRoom (v5 c d port o) = 778
+startRoom (v4 d port) = 1024
 
 -- the output that a delivery must lend
 abbrev pub deliveryRoom : Opening → ℕ

@@ -1,7 +1,8 @@
 -- Document 01, "v5 requests" and "v4 request": the bytes of each request, from its public document.
-use Prim.Native.Nat.{ℕ}
+use Prim.Native.Nat.{ℕ, _<_}
+use mathlib.Core.Path.{_≡_}
 use mathlib.Core.List.{List, [], _∷_, _++_}
-use lib.ListN.{length}
+use lib.ListN.{length, take, drop}
 use Rattle.protocol.specs.declared.AuthMethod.{AuthMethod}
 use Rattle.protocol.specs.declared.AuthMethod.the-variants.{NoAuth, UserPass, NoneAcceptable}
 use Rattle.protocol.specs.declared.AddressKind.{AddressKind}
@@ -42,6 +43,13 @@ pub data Destination4 : Type 0 where
 unfoldable pub request : Destination4 → ℕ → List ℕ
 request (address bs) port = 0x04 ∷ 0x01 ∷ (two port ++ (bs ++ (0 ∷ [])))
 request (name s) port = 0x04 ∷ 0x01 ∷ (two port ++ (0 ∷ 0 ∷ 0 ∷ 0xFF ∷ 0 ∷ (s ++ (0 ∷ []))))
+
+-- F-8, the SOCKS4A memo: an address 0.0.0.x with x not zero announces a name; and DSTIP, where a request has its address
+abbrev pub Announces : List ℕ → Type 0
+Announces ip = (x : ℕ) × (0 < x) × (ip ≡ 0 ∷ 0 ∷ 0 ∷ x ∷ [])
+
+abbrev pub dstIp : List ℕ → List ℕ
+dstIp q = take 4 (drop 4 q)
 
 -- a destination of a kind
 abbrev pub kindOf : AddressKind → List ℕ → Destination

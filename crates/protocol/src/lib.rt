@@ -24,7 +24,7 @@ pub struct Record {
     pub address: [u8; 16],
 }
 
-// proxy_auth: with user and password. local_dns: names are looked up by the caller. optimistic: all requests go at the opening.
+// proxy_auth: with user and password. local_dns: names are looked up by the caller. optimistic: all requests go at the start.
 pub struct SocksConfig {
     pub proxy_auth: bool,
     pub local_dns: bool,
@@ -54,6 +54,8 @@ pub enum SocksError {
     Failed,
     Command(u8),
     Settled,
+    OutOfOrder,
+    AnnouncesName,
 }
 
 // What a call answers beside its values.

@@ -1,10 +1,11 @@
-// SOCKS4 and SOCKS4A (the memos): writers for Request.
+// SOCKS4 and SOCKS4A (the memos): writers for Request, and which addresses it cannot ask for.
 ghost use mathlib.Core.Path.{_≡_};
 ghost use mathlib.Core.List.{_∷_};
 ghost use Prim.Native.Nat.{_+_, _≤_};
-ghost use lib.ListN.{length};
+ghost use lib.ListN.{length, take};
 ghost use Rattle.protocol.specs.Bytes.{two};
 ghost use Rattle.protocol.specs.Requests.{address, name, request};
+ghost use Rattle.protocol.specs.Opening.{announces};
 ghost use Rattle.wire.specs.Written.{Wrote};
 use wire::copy;
 use wire::put_byte;
@@ -38,4 +39,11 @@ pub fn put_name(out: &mut [u8], at: usize, host: &[u8], port: u16) -> usize
     let b = copy(out, a, b"\x00\x00\x00\xFF\x00");
     let c = copy(out, b, host);
     put_byte(out, c, 0)
+}
+
+// Whether an IPv4 address, the first four bytes, announces a name: 0.0.0.x with x not zero.
+pub fn announces_name(ip: [u8; 16]) -> bool
+    ensures { λ r. ⌜ r ≡ announces (take 4 ip) ⌝ }
+{
+    ip[0] == 0 && (ip[1] == 0 && (ip[2] == 0 && 0 < ip[3]))
 }

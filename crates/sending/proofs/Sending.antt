@@ -1,10 +1,11 @@
 -- What is kept is within its limits, and what a reply makes due stands where it is said to stand.
 use Prim.Native.Nat.{ℕ, _+_, _≤_, min}
 use native.Mathlib.Omega.{arith}
-use mathlib.Core.Path.{_≡_, sym, _∙_}
+use mathlib.Core.Path.{_≡_, ap, sym, _∙_}
 use mathlib.Core.Bool.{Bool, true, false}
-use mathlib.Core.List.{List}
-use lib.ListN.{length, drop, length-take}
+use mathlib.Core.List.{List, _++_}
+use lib.ListN.{length, take, drop, length-take}
+use lib.Seq.{drop-drop, take-add}
 use Rattle.protocol.specs.declared.AuthMethod.the-variants.{NoAuth, UserPass, NoneAcceptable}
 use Rattle.protocol.specs.declared.Reply.{Reply}
 use Rattle.protocol.specs.declared.Reply.the-variants.{NegotiationRes, AuthenticationRes, ProxyRes, Response}
@@ -51,6 +52,10 @@ due-inside l (NegotiationRes NoneAcceptable) = omega (arith, from-small l)
 due-inside l AuthenticationRes = omega (arith, from-small l)
 due-inside l ProxyRes = omega (arith, from-small l)
 due-inside l Response = omega (arith, from-small l)
+
+-- two parts, the second behind the first
+pub part-on : (b : List ℕ) (from n m : ℕ) → part b from n ++ part b (from + n) m ≡ part b from (n + m)
+part-on b from n m = ap (λ (l : List ℕ). take n (drop from b) ++ take m l) (sym (drop-drop n from b)) ∙ sym (take-add n m (drop from b))
 
 -- ---- where what is due begins
 

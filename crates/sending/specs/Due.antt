@@ -14,7 +14,7 @@ use Rattle.sending.specs.declared.Stage.{Stage}
 use Rattle.sending.specs.declared.Stage.the-variants.{Awaiting, Open, Failed}
 use Rattle.sending.specs.Parts.{negotiationSize, authenticationSize, proxySize}
 
--- plainly a request is sent when it is due; optimistically it went at the opening
+-- plainly a request is sent when it is due; optimistically it went at the start
 abbrev pub unlessGone : Bool → ℕ → ℕ
 unlessGone true n = 0
 unlessGone false n = n

@@ -1,7 +1,10 @@
 -- F-2 and F-4: the requests that a session keeps, one behind the other, each cut at its limit whatever a session value says.
 use Prim.Native.Nat.{ℕ, _+_, _≤_, min}
-use mathlib.Core.List.{List}
+use mathlib.Core.Bool.{cond}
+use mathlib.Core.List.{List, _++_}
 use lib.ListN.{length, take, drop}
+use Rattle.protocol.specs.declared.Reply.{Reply}
+use Rattle.protocol.specs.declared.Reply.the-variants.{NegotiationRes, AuthenticationRes, ProxyRes, Response}
 use Rattle.protocol.specs.Client.{Kept}
 use Rattle.sending.specs.declared.Lengths.{Lengths}
 use Rattle.sending.specs.declared.Requests.{Requests}
@@ -37,6 +40,16 @@ requestOf r = part (r .bytes) 0 (requestSize (r .lengths))
 -- what is kept, as the requests that may still be due
 abbrev pub requestsOf : Requests → Kept
 requestsOf r = record { optimistic = r .lengths .optimistic; authentication = authenticationOf r; proxy = proxyOf r }
+
+-- F-7: what a start sends: over v5 the NegotiationReq, or optimistically all; over v4 the Request. The version is told by the reply that is waited for
+abbrev pub firstOf5 : Requests → List ℕ
+firstOf5 r = cond (r .lengths .optimistic) (negotiationOf r ++ (authenticationOf r ++ proxyOf r)) (negotiationOf r)
+
+abbrev pub firstOf : Reply → Requests → List ℕ
+firstOf (NegotiationRes m) r = firstOf5 r
+firstOf AuthenticationRes r = firstOf5 r
+firstOf ProxyRes r = firstOf5 r
+firstOf Response r = requestOf r
 
 -- the limits of the requests that may still be due
 pub record Limited (c : Kept) : Type 0 where

@@ -15,7 +15,7 @@ pub enum Stage {
 }
 
 // How many bytes the requests of an opening have: the first, which is a NegotiationReq over v5 and a Request over v4, an AuthenticationReq
-// and a ProxyReq. optimistic: all went at the opening.
+// and a ProxyReq. optimistic: all go at the start.
 pub struct Lengths {
     pub optimistic: bool,
     pub first: usize,
@@ -35,7 +35,7 @@ pub struct Due {
     pub len: usize,
 }
 
-// What went at the opening is not due again.
+// What went at the start is not due again.
 fn unless_gone(optimistic: bool, len: usize) -> usize
     ensures { λ r. ⌜ r ≡ unlessGone optimistic len ⌝ }
 {

@@ -1,37 +1,45 @@
--- What the parts of a delivery and of an end come to.
+-- What the parts of a start, a delivery and an end come to.
 use Prim.Native.Nat.{ℕ, _+_, _-_, _≤_, _<_, min, zero-le}
 use native.Mathlib.Nat.{zero-add}
 use native.Mathlib.Omega.{arith}
 use mathlib.Core.Path.{_≡_, refl, ap, sym, _∙_}
-use mathlib.Core.Bool.{true, false}
+use mathlib.Core.Bool.{Bool, true, false, cond, not}
 use mathlib.Core.List.{List, [], _∷_, _++_}
 use lib.ListN.{length, take, drop, length-take, length-drop, length-append}
+use lib.Seq.{length-take-le}
 use borrow.Author.Tests.{le-leb, lt-leb}
 use Rattle.protocol.specs.declared.Reply.{Reply}
 use Rattle.protocol.specs.declared.Reply.the-variants.{NegotiationRes, AuthenticationRes, ProxyRes, Response}
 use Rattle.protocol.specs.declared.AuthMethod.the-variants.{NoAuth, UserPass, NoneAcceptable}
 use Rattle.protocol.specs.declared.SocksError.{SocksError}
-use Rattle.protocol.specs.declared.SocksError.the-variants.{ShortOutput, UnexpectedEof, Settled}
+use Rattle.protocol.specs.declared.SocksError.the-variants.{ShortOutput, UnexpectedEof, Settled, OutOfOrder}
 use Rattle.protocol.specs.declared.Answer.the-variants.{Accepted, Refused}
 use Rattle.protocol.specs.declared.Outcome.the-variants as Out
-use Rattle.protocol.specs.Client.{room, talkAt, client}
+use lib.Dec.{leb}
+use Rattle.protocol.specs.Client.{firstRoom, room, talkAt, client}
 use Rattle.wire.specs.Written.{overwrite}
 use Rattle.wire.proofs.Parts.{take-min}
 use Rattle.sending.specs.declared.Lengths.{Lengths}
+use Rattle.sending.specs.declared.Requests.{Requests}
 use Rattle.sending.specs.declared.Stage.{Stage}
 use Rattle.sending.specs.declared.Stage.the-variants.{Awaiting, Open, Failed}
 use Rattle.sending.specs.Stages.{SideFed, viewAt, stageOf, rank}
-use Rattle.sending.specs.Parts.{part}
+use Rattle.sending.specs.Parts.{part, firstOf}
 use Rattle.sending.specs.Due.{stillDue}
 use Rattle.sending.proofs.Stages.{awaits}
+use Rattle.starting.specs.declared.Starting.{Starting}
+use Rattle.starting.specs.Starting.{firstSize, refused, startAt}
+use Rattle.starting.proofs.Laws.{first-part, sent-fits, sent-within}
 use Rattle.turns.specs.declared.Taken.{Taken}
 use Rattle.turns.specs.Turns.{keptIn, Takes}
 use Rattle.session.specs.declared.Session.{Session}
+use Rattle.session.specs.declared.Ended.{Ended}
 use Rattle.session.specs.declared.Received.{Received}
-use Rattle.session.specs.Session.{sideOf, heldBytes, view, outcome}
-use Rattle.session.specs.Calls.{Call, Delivers, delivered, moves, takes, deliver, end, endedBy}
+use Rattle.session.specs.Session.{sideOf, heldBytes, view, packed, outcome}
+use Rattle.session.specs.Calls.{Call, refusal, Starts, started, starts, start, Delivers, delivered, moves, takes, deliver, end, endedBy}
+use Rattle.session.specs.Ends.{endAwaiting}
 use Rattle.session.specs.Received.{unchanged, sessionOf, sending, Receives}
-use Rattle.talk.specs.Talk.{feed, onward, heldBy, isOver}
+use Rattle.talk.specs.Talk.{failed, ended, feed, onward, heldBy, isOver}
 
 pub take-least : (n : ℕ) (l : List ℕ) → length l ≡ 261 → take (min n 261) l ≡ take n l
 take-least n l h = rw (← h) (take-min n l)
@@ -68,47 +76,54 @@ still-room AuthenticationRes = omega arith
 still-room ProxyRes = omega arith
 still-room Response = omega arith
 
-module _ (held : ℕ) (l : Lengths) (hold piece : List ℕ) (lent : ℕ) where
-  pub receives-settled : (stage : Stage) → rank stage ≡ 0 → {r : Received} → r ≡ unchanged (Refused Settled) stage held → Receives stage held l hold piece lent r hold
+module _ (g : Bool) (held : ℕ) (l : Lengths) (hold piece : List ℕ) (lent : ℕ) where
+  pub receives-settled : (stage : Stage) → rank stage ≡ 0 → {r : Received} → r ≡ unchanged (Refused Settled) stage held → Receives stage g held l hold piece lent r hold
   unfolding deliver
   receives-settled stage z e = rw e (record { calls = λ b out h. rw (is-over stage (take held hold) z); within = zero-le; fits = zero-le; inside = zero-le })
 
   module _ (e : Reply) {r : Received} where
-    pub receives-short : lent < room e → r ≡ unchanged (Refused ShortOutput) (Awaiting e) held → Receives (Awaiting e) held l hold piece lent r hold
+    pub receives-unstarted : g ≡ false → r ≡ unchanged (Refused OutOfOrder) (Awaiting e) held → Receives (Awaiting e) g held l hold piece lent r hold
     unfolding deliver
-    receives-short h q = rw q (record { calls = λ b out k. rw (k, lt-leb (room e) lent h); within = zero-le; fits = zero-le; inside = zero-le })
+    receives-unstarted f q = rw (f, q) (record { calls = λ b out k. refl; within = zero-le; fits = zero-le; inside = zero-le })
 
-    pub receives-none : room e ≤ lent → length piece ≡ 0 → r ≡ unchanged Accepted (Awaiting e) held → Receives (Awaiting e) held l hold piece lent r hold
+    pub receives-short : g ≡ true → lent < room e → r ≡ unchanged (Refused ShortOutput) (Awaiting e) held → Receives (Awaiting e) g held l hold piece lent r hold
     unfolding deliver
-    receives-none h z q = rw q (record { calls = λ b out k. rw (k, le-leb (room e) lent h) (takes-none (sessionOf (Awaiting e) held hold l b) piece out z); within = zero-le; fits = zero-le; inside = zero-le })
+    receives-short t h q = rw (t, q) (record { calls = λ b out k. rw (k, lt-leb (room e) lent h); within = zero-le; fits = zero-le; inside = zero-le })
+
+    pub receives-none : g ≡ true → room e ≤ lent → length piece ≡ 0 → r ≡ unchanged Accepted (Awaiting e) held → Receives (Awaiting e) g held l hold piece lent r hold
+    unfolding deliver
+    receives-none t h z q =
+        rw (t, q)
+        (record { calls = λ b out k. rw (k, le-leb (room e) lent h) (takes-none (sessionOf (Awaiting e) true held hold l b) piece out z); within = zero-le; fits = zero-le; inside = zero-le })
 
   -- a piece taken behind held bytes
   module _ (e : Reply) {h : List ℕ} (q : h ≡ take held hold) {t : Taken} {hold′ : List ℕ} (w : Takes l e h piece hold t hold′) where
-    moves-as : (b out : List ℕ) → moves (sessionOf (Awaiting e) held hold l b) (feed (client (keptIn l b)) (talkAt (keptIn l b) e) (take held hold ++ piece)) out ≡ sending Accepted t hold′ l b out
+    moves-as : (b out : List ℕ) → moves (sessionOf (Awaiting e) true held hold l b) (feed (client (keptIn l b)) (talkAt (keptIn l b) e) (take held hold ++ piece)) out ≡ sending Accepted true t hold′ l b out
     moves-as b out =
         let k = w .keeps in
         let fed = ap (λ (x : List ℕ). feed (client (keptIn l b)) (talkAt (keptIn l b) e) (x ++ piece)) (sym q) ∙ w .whole b in
         let rest = drop (w .place) (h ++ piece) in
         let used : w .place + length (heldBy (viewAt (w .stage) rest)) - length (take held hold) ≡ t .used = rw (← q) (sym (k .uses)) in
-        ap (λ (f : SideFed). moves (sessionOf (Awaiting e) held hold l b) f out) fed
+        ap (λ (f : SideFed). moves (sessionOf (Awaiting e) true held hold l b) f out) fed
         ∙ (λ i. record {
           answer = Accepted;
-          session = record { stage = (stage-back (w .stage) rest ∙ sym (k .staged)) i; held = sym (k .counts) i; hold = sym (k .holds) i; requests = record { lengths = l; bytes = b } };
+          session = record { stage = (stage-back (w .stage) rest ∙ sym (k .staged)) i; started = true; held = sym (k .counts) i; hold = sym (k .holds) i; requests = record { lengths = l; bytes = b } };
           used = used i;
           sent = length (part b (t .from) (t .sent));
           output = part b (t .from) (t .sent) ++ drop (length (part b (t .from) (t .sent))) out;
         })
 
-    pub receives-taken : room e ≤ lent → (length piece ≡ 0 → ⊥) → Receives (Awaiting e) held l hold piece lent (record { answer = Accepted; taken = t }) hold′
+    pub receives-taken : g ≡ true → room e ≤ lent → (length piece ≡ 0 → ⊥) → Receives (Awaiting e) g held l hold piece lent (record { answer = Accepted; taken = t }) hold′
     unfolding deliver onward
-    receives-taken h z =
+    receives-taken j h z =
         let s = w .few in
-        record {
-          calls = λ b out g. rw (g, le-leb (room e) lent h) (takes-more (sessionOf (Awaiting e) held hold l b) piece out z ∙ moves-as b out);
+        rw j
+        (record {
+          calls = λ b out g. rw (g, le-leb (room e) lent h) (takes-more (sessionOf (Awaiting e) true held hold l b) piece out z ∙ moves-as b out);
           within = w .keeps .within;
           fits = omega (arith, s, still-room e);
           inside = w .inside;
-        }
+        })
 
 -- ---- a delivery: what is due is sent, and the session built
 
@@ -123,10 +138,10 @@ part-long : (b : List ℕ) (from n : ℕ) → length b ≡ 1024 → from + n ≤
 part-long b from n l h = length-take n (drop from b) ∙ rw (length-drop from b) (omega arith)
 
 module _ (s : Session) (piece out : List ℕ) {r : Received} {hold′ out′ : List ℕ} where
-  pub delivers : Receives (s .stage) (s .held) (s .requests .lengths) (s .hold) piece (length out) r hold′ → length (s .requests .bytes) ≡ 1024
+  pub delivers : Receives (s .stage) (s .started) (s .held) (s .requests .lengths) (s .hold) piece (length out) r hold′ → length (s .requests .bytes) ≡ 1024
       → out′ ≡ overwrite out 0 (part (s .requests .bytes) (r .taken .from) (r .taken .sent))
       → Delivers (deliver s piece out) piece
-      (record { answer = r .answer; used = r .taken .used; sent = r .taken .sent; session = sessionOf (r .taken .stage) (r .taken .held) hold′ (s .requests .lengths) (s .requests .bytes) }) out′
+      (record { answer = r .answer; used = r .taken .used; sent = r .taken .sent; session = sessionOf (r .taken .stage) (s .started) (r .taken .held) hold′ (s .requests .lengths) (s .requests .bytes) }) out′
   unfolding overwrite
   delivers v long w =
       let t = r .taken in
@@ -135,10 +150,62 @@ module _ (s : Session) (piece out : List ℕ) {r : Received} {hold′ out′ : L
       let c = v .calls (s .requests .bytes) out refl in
       let o : out′ ≡ p ++ drop (length p) out = w ∙ ap (λ (k : ℕ). p ++ drop k out) (zero-add (length p)) in
       record {
-        returned = (λ i. record { answer = r .answer; used = t .used; sent = sym n i; session = sessionOf (t .stage) (t .held) hold′ (s .requests .lengths) (s .requests .bytes) }) ∙ ap delivered (sym c);
+        returned = (λ i. record { answer = r .answer; used = t .used; sent = sym n i; session = sessionOf (t .stage) (s .started) (t .held) hold′ (s .requests .lengths) (s .requests .bytes) }) ∙ ap delivered (sym c);
         output = o ∙ ap (λ (a : Call). a .output) (sym c);
         inside = rw o (omega (arith, length-append p (drop (length p) out)));
         within = v .within;
+      }
+
+-- ---- a start: a part of the requests is sent, and the session marked
+
+abbrev startCall : Session → Starting → List ℕ → Call
+startCall s r out =
+    let sent = part (s .requests .bytes) 0 (r .sent) in
+    record {
+      answer = r .answer;
+      session = record { stage = s .stage; started = r .started; held = s .held; hold = s .hold; requests = s .requests };
+      used = 0;
+      sent = length sent;
+      output = sent ++ drop (length sent) out;
+    }
+
+module _ (held : ℕ) (hold : List ℕ) (q : Requests) (out : List ℕ) where
+  abbrev at : Stage → Bool → Session
+  at stage g = record { stage = stage; started = g; held = held; hold = hold; requests = q }
+
+  start-call : (stage : Stage) (g : Bool) → startCall (at stage g) (startAt stage g (q .lengths) (length out)) out ≡ start (at stage g) out
+  unfolding start
+  start-call (Awaiting e) true = refl
+  start-call (Awaiting e) false = go (leb (firstRoom e) (length out))
+    where
+      go : (b : Bool)
+          → startCall (at (Awaiting e) false) (cond b (record { answer = Accepted; started = true; sent = firstSize (q .lengths) e }) (refused ShortOutput false)) out
+          ≡ cond b (starts (at (Awaiting e) false) (firstOf e q) out) (refusal ShortOutput (at (Awaiting e) false) out)
+      go true = ap (λ (first : List ℕ). starts (at (Awaiting e) false) first out) (sym (first-part e q))
+      go false = refl
+  start-call Open g = refl
+  start-call (Failed x) g = refl
+
+module _ (s : Session) (out : List ℕ) {r : Starting} (q : r ≡ startAt (s .stage) (s .started) (s .requests .lengths) (length out)) (long : length (s .requests .bytes) ≡ 1024) where
+  pub start-kept : r .sent ≤ length (s .requests .bytes)
+  start-kept = rw q (omega (arith, sent-within (s .started) (s .requests .lengths) (length out) (s .stage)))
+
+  pub start-fits : 0 + length (take (r .sent) (s .requests .bytes)) ≤ length out
+  start-fits = rw q (omega (arith, length-take (startAt (s .stage) (s .started) (s .requests .lengths) (length out) .sent) (s .requests .bytes), sent-fits (s .started) (s .requests .lengths) (length out) (s .stage)))
+
+  pub starts-as : {out′ : List ℕ} → out′ ≡ overwrite out 0 (take (r .sent) (s .requests .bytes))
+      → Starts (start s out)
+      (record { answer = r .answer; sent = r .sent; session = record { stage = s .stage; started = r .started; held = s .held; hold = s .hold; requests = s .requests } }) out′
+  unfolding overwrite
+  starts-as {out′} w =
+      let p = part (s .requests .bytes) 0 (r .sent) in
+      let n : length p ≡ r .sent = length-take-le (r .sent) (s .requests .bytes) start-kept in
+      let c = ap (λ (x : Starting). startCall s x out) q ∙ start-call (s .held) (s .hold) (s .requests) out (s .stage) (s .started) in
+      let o : out′ ≡ p ++ drop (length p) out = w ∙ ap (λ (k : ℕ). p ++ drop k out) (zero-add (length p)) in
+      record {
+        returned = (λ i. record { answer = r .answer; sent = sym n i; session = record { stage = s .stage; started = r .started; held = s .held; hold = s .hold; requests = s .requests } }) ∙ ap started c;
+        output = o ∙ ap (λ (a : Call). a .output) c;
+        inside = rw o (omega (arith, length-append p (drop (length p) out)));
       }
 
 -- ---- an end, and the outcome
@@ -148,9 +215,18 @@ module _ (s : Session) where
   unfolding end
   end-settled z = rw (is-over (s .stage) (heldBytes s) z)
 
-  pub end-waits : {w : Reply} → s .stage ≡ Awaiting w → record { answer = Accepted; session = record { stage = Failed UnexpectedEof; held = 0; hold = s .hold; requests = s .requests } } ≡ endedBy (end s)
+  pub end-waits : {w : Reply} → s .stage ≡ Awaiting w → endAwaiting (s .started) s ≡ endedBy (end s)
   unfolding end
-  end-waits q = rw (waits-on (heldBytes s) q)
+  end-waits q = rw (waits-on (heldBytes s) q) (go (s .started))
+    where
+      go : (g : Bool)
+          → endAwaiting g s
+          ≡ endedBy (cond (not g) (refusal OutOfOrder s []) (record { answer = Accepted; session = packed s (ended (failed UnexpectedEof)); used = 0; sent = 0; output = [] }))
+      go true = refl
+      go false = refl
+
+  pub ends-by : {g : Bool} → s .started ≡ g → {r : Ended} → r ≡ endAwaiting g s → r ≡ endAwaiting (s .started) s
+  ends-by q e = e ∙ ap (λ (g : Bool). endAwaiting g s) (sym q)
 
   pub outcome-failed : {x : SocksError} → s .stage ≡ Failed x → Out.Failed x ≡ outcome s
   outcome-failed q = rw q

@@ -2,13 +2,13 @@
 use Prim.Native.Nat.{ℕ, _+_, _-_, _≤_}
 use native.Mathlib.Omega.{arith}
 use mathlib.Core.Path.{_≡_, refl, ap, sym, _∙_}
-use mathlib.Core.Bool.{Bool, true, false, cond}
+use mathlib.Core.Bool.{Bool, true, false, cond, not}
 use mathlib.Core.List.{List, [], _∷_, _++_}
 use lib.ListN.{length, drop}
 use lib.Dec.{leb}
 use lib.Seq.{getD-append-add, getD-drop}
 use Rattle.protocol.specs.Bytes.{byte}
-use Rattle.protocol.specs.declared.SocksError.the-variants.{ShortOutput, Settled}
+use Rattle.protocol.specs.declared.SocksError.the-variants.{ShortOutput, Settled, OutOfOrder}
 use Rattle.session.specs.declared.Session.{Session}
 use Rattle.session.specs.Session.{sideOf, view, roomAt}
 use Rattle.session.specs.Calls.{refusal, takes, deliver}
@@ -27,9 +27,10 @@ module _ (s : Session) (piece out : List ℕ) where
 
   pub hold-stays : HoldStays s (deliver s piece out .session)
   unfolding deliver
-  hold-stays = go (isOver (view s)) (leb (roomAt (s .stage)) (length out))
+  hold-stays = go (isOver (view s)) (s .started) (leb (roomAt (s .stage)) (length out))
     where
-      go : (a b : Bool) → HoldStays s (cond a (refusal Settled s out) (cond b (takes s piece out) (refusal ShortOutput s out)) .session)
-      go true b = λ i h. refl
-      go false true = taken piece
-      go false false = λ i h. refl
+      go : (a g b : Bool) → HoldStays s (cond a (refusal Settled s out) (cond (not g) (refusal OutOfOrder s out) (cond b (takes s piece out) (refusal ShortOutput s out))) .session)
+      go true g b = λ i h. refl
+      go false false b = λ i h. refl
+      go false true true = taken piece
+      go false true false = λ i h. refl

@@ -1,3 +1,2 @@
 pub mod Deliveries
-pub mod Refusals
 pub mod Hold

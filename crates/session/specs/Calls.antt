@@ -1,27 +1,28 @@
 -- What each call answers and leaves, for any arguments. A call's answer, session, counts and output are one record.
 use Prim.Native.Nat.{ℕ, _-_, _≤_}
 use mathlib.Core.Path.{_≡_}
-use mathlib.Core.Bool.{Bool, false, cond}
+use mathlib.Core.Bool.{Bool, true, false, cond, not}
 use mathlib.Core.List.{List, [], _∷_, _++_}
 use lib.ListN.{length, drop, replicate}
 use lib.Dec.{leb}
 use Rattle.protocol.specs.declared.AuthMethod.the-variants.{NoAuth, UserPass}
 use Rattle.protocol.specs.declared.SocksError.{SocksError}
-use Rattle.protocol.specs.declared.SocksError.the-variants.{ShortOutput, UnexpectedEof, Settled}
+use Rattle.protocol.specs.declared.SocksError.the-variants.{ShortOutput, UnexpectedEof, Settled, OutOfOrder}
 use Rattle.protocol.specs.declared.Answer as code
 use Rattle.protocol.specs.declared.Answer.the-variants.{Accepted, Refused}
 use Rattle.protocol.specs.Numbers.{answerNumber, outcomeNumber}
 use Rattle.protocol.specs.Requests.{negotiationReq, authenticationReq, proxyReq, request}
-use Rattle.protocol.specs.Opening.{V5, V4, check5, check4, Opening, v5, v4, noAuth, userPass, opening5, opening4}
-use Rattle.protocol.specs.Client.{side, begun}
-use Rattle.sending.specs.declared.Stage.the-variants.{Failed}
+use Rattle.protocol.specs.Opening.{V5, V4, check5, check4, Opening, v5, v4, noAuth, userPass, opening5, opening4, firstReply}
+use Rattle.sending.specs.declared.Stage.{Stage}
+use Rattle.sending.specs.declared.Stage.the-variants.{Awaiting, Failed}
 use Rattle.sending.specs.declared.Requests.{Requests}
 use Rattle.session.specs.declared.Session.{Session}
-use Rattle.session.specs.declared.Opened.{Opened}
+use Rattle.session.specs.declared.Prepared.{Prepared}
+use Rattle.session.specs.declared.Started.{Started}
 use Rattle.session.specs.declared.Delivered.{Delivered}
 use Rattle.session.specs.declared.Ended.{Ended}
-use Rattle.session.specs.Session.{sideOf, view, packed, outcome, roomAt}
-use Rattle.talk.specs.Talk.{failed, ended, feed, onward, heldBy, isOver, reached}
+use Rattle.session.specs.Session.{sideOf, view, packed, outcome, firstRoomAt, firstAt, roomAt}
+use Rattle.talk.specs.Talk.{failed, ended, onward, heldBy, isOver, reached}
 use Rattle.talk.specs.Tunnel.{Answer, Receiver}
 use Rattle.sending.specs.Stages.{SideFed}
 
@@ -33,11 +34,11 @@ refusal e s out = record { answer = Refused e; session = s; used = 0; sent = 0; 
 
 -- ---- what a function of the code returns and leaves in the output, as a call says; with the bounds that a caller slices by
 
-abbrev pub opened : Call → Opened
-opened c = record { answer = c .answer; sent = c .sent; session = c .session }
+abbrev pub started : Call → Started
+started c = record { answer = c .answer; sent = c .sent; session = c .session }
 
-pub record Opens (c : Call) (r : Opened) (out′ : List ℕ) : Type 0 where
-  pub returned : r ≡ opened c
+pub record Starts (c : Call) (r : Started) (out′ : List ℕ) : Type 0 where
+  pub returned : r ≡ started c
   pub output : out′ ≡ c .output
   pub inside : r .sent ≤ length out′
 
@@ -53,7 +54,7 @@ pub record Delivers (c : Call) (piece : List ℕ) (r : Delivered) (out′ : List
 abbrev pub endedBy : Call → Ended
 endedBy c = record { answer = c .answer; session = c .session }
 
--- ---- Opening
+-- ---- Preparing (F-7)
 
 -- bytes at the start of an array of zeros
 abbrev pub padded : ℕ → List ℕ → List ℕ
@@ -76,30 +77,46 @@ keptBy (v5 noAuth d port o) = keptWith o (negotiationReq NoAuth) [] (proxyReq d 
 keptBy (v5 (userPass u p) d port o) = keptWith o (negotiationReq UserPass) (authenticationReq u p) (proxyReq d port)
 keptBy (v4 d port) = keptWith false (request d port) [] []
 
--- the empty session, failed with an error
-abbrev pub emptySession : Requests → SocksError → Session
-emptySession q e = record { stage = Failed e; held = 0; hold = replicate 261 0; requests = q }
+-- a session that is not started and holds nothing
+abbrev pub fresh : Stage → Requests → Session
+fresh s q = record { stage = s; started = false; held = 0; hold = replicate 261 0; requests = q }
 
--- an accepted opening: its talk, fed with no byte; what is sent stands at the output's start
-abbrev pub begins : Opening → SideFed → List ℕ → Call
-begins o f out =
+-- prepared: the requests are kept, and the first reply is waited for
+abbrev pub preparedFor : Opening → Session
+preparedFor o = fresh (Awaiting (firstReply o)) (keptBy o)
+
+-- the empty session, failed with an error
+abbrev pub emptySession : SocksError → Session
+emptySession e = fresh (Failed e) nothingKept
+
+abbrev pub preparedBy : code.Answer → Opening → Prepared
+preparedBy Accepted o = record { answer = Accepted; session = preparedFor o }
+preparedBy (Refused e) o = record { answer = Refused e; session = emptySession e }
+
+unfoldable pub prepare5 : V5 → Prepared
+prepare5 a = preparedBy (check5 a) (opening5 a)
+
+unfoldable pub prepare4 : V4 → Prepared
+prepare4 a = preparedBy (check4 a) (opening4 a)
+
+-- ---- Starting (F-7)
+
+-- bytes sent stand at the output's start; nothing else of the session changes
+abbrev pub starts : Session → List ℕ → List ℕ → Call
+starts s first out =
     record {
       answer = Accepted;
-      session = packed (emptySession (keptBy o) Settled) (f .session);
+      session = record { stage = s .stage; started = true; held = s .held; hold = s .hold; requests = s .requests };
       used = 0;
-      sent = length (f .sent);
-      output = f .sent ++ drop (length (f .sent)) out;
+      sent = length first;
+      output = first ++ drop (length first) out;
     }
 
-abbrev pub openBy : code.Answer → Opening → List ℕ → Call
-openBy Accepted o out = begins o (feed (side o) (begun o) []) out
-openBy (Refused e) o out = refusal e (emptySession nothingKept e) out
-
-unfoldable pub open5 : V5 → List ℕ → Call
-open5 a out = openBy (check5 (length out) a) (opening5 a) out
-
-unfoldable pub open4 : V4 → List ℕ → Call
-open4 a out = openBy (check4 (length out) a) (opening4 a) out
+unfoldable pub start : Session → List ℕ → Call
+start s out =
+    cond (isOver (view s)) (refusal Settled s out)
+    (cond (s .started) (refusal OutOfOrder s out)
+    (cond (leb (firstRoomAt (s .stage)) (length out)) (starts s (firstAt (s .stage) (s .requests)) out) (refusal ShortOutput s out)))
 
 -- ---- Delivery
 
@@ -121,7 +138,8 @@ takes s (b ∷ bs) out = moves s (onward (sideOf s) (view s) (b ∷ bs)) out
 unfoldable pub deliver : Session → List ℕ → List ℕ → Call
 deliver s piece out =
     cond (isOver (view s)) (refusal Settled s out)
-    (cond (leb (roomAt (s .stage)) (length out)) (takes s piece out) (refusal ShortOutput s out))
+    (cond (not (s .started)) (refusal OutOfOrder s out)
+    (cond (leb (roomAt (s .stage)) (length out)) (takes s piece out) (refusal ShortOutput s out)))
 
 -- sessions take deliveries, of which those count that lend so much output
 abbrev pub receiver : ℕ → Receiver Session code.Answer
@@ -132,7 +150,8 @@ receiver room = record { room = room; deliver = deliver }
 unfoldable pub end : Session → Call
 end s =
     cond (isOver (view s)) (refusal Settled s [])
-    (record { answer = Accepted; session = packed s (ended (failed UnexpectedEof)); used = 0; sent = 0; output = [] })
+    (cond (not (s .started)) (refusal OutOfOrder s [])
+    (record { answer = Accepted; session = packed s (ended (failed UnexpectedEof)); used = 0; sent = 0; output = [] }))
 
 -- ---- a number that a call does not meet, neither as its answer nor as the outcome of what it returns
 

@@ -1,6 +1,6 @@
 -- The session as the calls hold it, and the session of a handshake's side that it stands for.
 use Prim.Native.Nat.{ℕ}
-use mathlib.Core.List.{List, _++_}
+use mathlib.Core.List.{List, [], _++_}
 use lib.ListN.{length, take, drop}
 use Rattle.protocol.specs.declared.Outcome.{Outcome}
 use Rattle.protocol.specs.Client as client
@@ -9,7 +9,8 @@ use Rattle.sending.specs.declared.Stage.the-variants.{Awaiting, Open, Failed}
 use Rattle.session.specs.declared.Session.{Session}
 use Rattle.talk.specs.Talk as talk
 use Rattle.sending.specs.Stages.{SideSession, viewAt, stageOf}
-use Rattle.sending.specs.Parts.{requestsOf}
+use Rattle.sending.specs.declared.Requests.{Requests}
+use Rattle.sending.specs.Parts.{requestsOf, firstOf}
 
 abbrev pub sideOf : Session → talk.Side
 sideOf s = client.client (requestsOf (s .requests))
@@ -26,6 +27,7 @@ abbrev pub packed : Session → SideSession → Session
 packed s m =
     record {
       stage = stageOf m;
+      started = s .started;
       held = length (talk.heldBy m);
       hold = talk.heldBy m ++ drop (length (talk.heldBy m)) (s .hold);
       requests = s .requests;
@@ -34,7 +36,18 @@ packed s m =
 abbrev pub outcome : Session → Outcome
 outcome s = client.outcomeOf (view s)
 
--- the output that a delivery must lend: a waiting session's version is told by the reply that it waits for
+-- F-7: the output that a start must lend, and what it sends; a waiting session's version is told by the reply that it waits for
+abbrev pub firstRoomAt : Stage → ℕ
+firstRoomAt (Awaiting e) = client.firstRoom e
+firstRoomAt Open = 0
+firstRoomAt (Failed x) = 0
+
+abbrev pub firstAt : Stage → Requests → List ℕ
+firstAt (Awaiting e) r = firstOf e r
+firstAt Open r = []
+firstAt (Failed x) r = []
+
+-- the output that a delivery must lend
 abbrev pub roomAt : Stage → ℕ
 roomAt (Awaiting e) = client.room e
 roomAt Open = 0

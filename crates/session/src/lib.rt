@@ -1,4 +1,4 @@
-// The client's side of a SOCKS handshake: a session that is opened, fed with pieces, and ended.
+// The client's side of a SOCKS handshake: a session that is prepared, started, fed with pieces, and ended.
 
 ghost use mathlib.Core.Path.{_≡_};
 ghost use Prim.Native.Nat.{_+_, _≤_};
@@ -8,7 +8,8 @@ ghost use Rattle.wire.specs.Written.{overwrite};
 ghost use Rattle.sending.specs.Parts.{part};
 ghost use Rattle.sending.specs.declared.Stage.the-variants as Stage;
 ghost use Rattle.session.specs.Session.{outcome};
-ghost use Rattle.session.specs.Calls.{Delivers, deliver, endedBy, end};
+ghost use Rattle.session.specs.Calls.{Starts, start, Delivers, deliver, endedBy, end};
+ghost use Rattle.session.specs.Ends.{endAwaiting};
 ghost use Rattle.session.specs.Received.{unchanged, Receives};
 use protocol::Answer;
 use protocol::Outcome;
@@ -21,15 +22,23 @@ use turns::Taken;
 use wire::copy;
 use wire::least;
 
-// The first held bytes of the hold are the undecided rest of a reply. The requests never change.
+// What matters when. Prepared, which is awaiting and not started: `requests`, of which a start sends the first. Awaiting and started: the
+// first `held` bytes of `hold`, which are the undecided rest of a reply, and those of `requests` that are still due. Open or failed: the
+// stage alone. The requests never change.
 pub struct Session {
     pub stage: Stage,
+    pub started: bool,
     pub held: usize,
     pub hold: [u8; 261],
     pub requests: Requests,
 }
 
-pub struct Opened {
+pub struct Prepared {
+    pub answer: Answer,
+    pub session: Session,
+}
+
+pub struct Started {
     pub answer: Answer,
     pub sent: usize,
     pub session: Session,
@@ -84,6 +93,7 @@ fn unchanged(answer: Answer, stage: Stage, held: usize) -> Received
 // A piece for a session that waits for a reply, with so much output lent. An empty one changes nothing.
 fn receive_awaiting(
     reply: Reply,
+    started: bool,
     held: usize,
     lengths: Lengths,
     hold: &mut [u8],
@@ -91,9 +101,12 @@ fn receive_awaiting(
     room: usize,
 ) -> Received
     requires { ⌜ length (now hold) ≡ 261 ⌝ }
-    ensures { λ r. ⌜ Receives (Stage.Awaiting reply) held lengths (now (hold .entry)) (now (piece .entry)) room r (now (hold .exit)) ⌝ }
+    ensures { λ r. ⌜ Receives (Stage.Awaiting reply) started held lengths (now (hold .entry)) (now (piece .entry)) room r (now (hold .exit)) ⌝ }
 {
     let stage = Stage::Awaiting(reply);
+    if !started {
+        return unchanged(Answer::Refused(SocksError::OutOfOrder), stage, held);
+    }
     if room < room_of(reply) {
         return unchanged(Answer::Refused(SocksError::ShortOutput), stage, held);
     }
@@ -108,6 +121,7 @@ fn receive_awaiting(
 
 fn receive(
     stage: Stage,
+    started: bool,
     held: usize,
     lengths: Lengths,
     hold: &mut [u8],
@@ -115,10 +129,18 @@ fn receive(
     room: usize,
 ) -> Received
     requires { ⌜ length (now hold) ≡ 261 ⌝ }
-    ensures { λ r. ⌜ Receives stage held lengths (now (hold .entry)) (now (piece .entry)) room r (now (hold .exit)) ⌝ }
+    ensures { λ r. ⌜ Receives stage started held lengths (now (hold .entry)) (now (piece .entry)) room r (now (hold .exit)) ⌝ }
 {
     match stage {
-        Stage::Awaiting(reply) => receive_awaiting(reply, held, lengths, hold, piece, room),
+        Stage::Awaiting(reply) => receive_awaiting(
+            reply,
+            started,
+            held,
+            lengths,
+            hold,
+            piece,
+            room,
+        ),
         Stage::Open => unchanged(Answer::Refused(SocksError::Settled), stage, held),
         Stage::Failed(error) => unchanged(Answer::Refused(SocksError::Settled), stage, held),
     }
@@ -138,7 +160,35 @@ fn send(requests: Requests, from: usize, n: usize, out: &mut [u8])
 }
 
 impl Session {
-    // Takes a piece, and puts what it makes due at the output's start. Refused if the session is settled, or the output has less than 778 bytes over v5, or 262 over v4.
+    // Sends the first request, or all, from the output's start. Refused if the session is settled, or has been started, or the output has
+    // less than 778 bytes over v5, or 1,024 over v4.
+    pub fn start(self, out: &mut [u8]) -> Started
+        ensures { λ r. ⌜ Starts (start self (now (out .entry))) r (now (out .exit)) ⌝ }
+    {
+        let stage = self.stage;
+        let requests = self.requests;
+        let lengths = requests.lengths;
+        let bytes = requests.bytes;
+        let start = starting::start(stage, self.started, lengths, out.len());
+        let answer = start.answer;
+        let n = start.sent;
+        copy(out, 0, &bytes[..n]);
+        let hold = self.hold;
+        Started {
+            answer: answer,
+            sent: n,
+            session: Session {
+                stage: stage,
+                started: start.started,
+                held: self.held,
+                hold: hold,
+                requests: requests,
+            },
+        }
+    }
+
+    // Takes a piece, and puts what it makes due at the output's start. Refused if the session is settled, or not started, or the output has less
+    // than 778 bytes over v5, or 262 over v4.
     pub fn deliver(self, piece: &[u8], out: &mut [u8]) -> Delivered
         ensures { λ r. ⌜ Delivers (deliver self (now (piece .entry)) (now (out .entry))) (now (piece .entry)) r (now (out .exit)) ⌝ }
     {
@@ -146,7 +196,15 @@ impl Session {
         let requests = self.requests;
         let lengths = requests.lengths;
         let mut hold = self.hold;
-        let received = receive(stage, self.held, lengths, &mut hold, piece, out.len());
+        let received = receive(
+            stage,
+            self.started,
+            self.held,
+            lengths,
+            &mut hold,
+            piece,
+            out.len(),
+        );
         let answer = received.answer;
         let taken = received.taken;
         send(requests, taken.from, taken.sent, out);
@@ -157,6 +215,7 @@ impl Session {
             sent: taken.sent,
             session: Session {
                 stage: next,
+                started: self.started,
                 held: taken.held,
                 hold: hold,
                 requests: requests,
@@ -166,36 +225,51 @@ impl Session {
 
     // Settling changes the stage and the number of held bytes, and nothing else.
     fn settled(self, stage: Stage) -> Session
-        ensures { λ r. ⌜ r ≡ record { stage = stage; held = 0; hold = self .hold; requests = self .requests } ⌝ }
+        ensures { λ r. ⌜ r ≡ record { stage = stage; started = self .started; held = 0; hold = self .hold; requests = self .requests } ⌝ }
     {
         let hold = self.hold;
         let requests = self.requests;
         Session {
             stage: stage,
+            started: self.started,
             held: 0,
             hold: hold,
             requests: requests,
         }
     }
 
-    // The stream has ended: a session that waits has failed. Refused if it is settled.
+    // The stream is not at its end for this session.
+    fn unended(self, error: SocksError) -> Ended
+        ensures { λ r. ⌜ r ≡ record { answer = Answer.Refused error; session = self } ⌝ }
+    {
+        Ended {
+            answer: Answer::Refused(error),
+            session: self,
+        }
+    }
+
+    // Not before the start.
+    fn end_awaiting(self) -> Ended
+        ensures { λ r. ⌜ r ≡ endAwaiting (self .started) self ⌝ }
+    {
+        if !self.started {
+            return self.unended(SocksError::OutOfOrder);
+        }
+        Ended {
+            answer: Answer::Accepted,
+            session: self.settled(Stage::Failed(SocksError::UnexpectedEof)),
+        }
+    }
+
+    // The stream has ended: a session that waits has failed. Refused if it is settled, or not started.
     pub fn end(self) -> Ended
         ensures { λ r. ⌜ r ≡ endedBy (end self) ⌝ }
     {
         let stage = self.stage;
         match stage {
-            Stage::Awaiting(reply) => Ended {
-                answer: Answer::Accepted,
-                session: self.settled(Stage::Failed(SocksError::UnexpectedEof)),
-            },
-            Stage::Open => Ended {
-                answer: Answer::Refused(SocksError::Settled),
-                session: self,
-            },
-            Stage::Failed(error) => Ended {
-                answer: Answer::Refused(SocksError::Settled),
-                session: self,
-            },
+            Stage::Awaiting(reply) => self.end_awaiting(),
+            Stage::Open => self.unended(SocksError::Settled),
+            Stage::Failed(error) => self.unended(SocksError::Settled),
         }
     }
 

@@ -1,4 +1,6 @@
 pub mod Claims
+pub mod Refusals
+pub mod InTwo
 pub mod Tunnels
 pub mod Openings
 pub mod Examples

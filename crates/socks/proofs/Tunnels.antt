@@ -2,12 +2,12 @@
 use Prim.Native.Nat.{ℕ, zero-le}
 use native.Mathlib.Omega.{arith}
 use mathlib.Core.Path.{_≡_, refl, ap, sym, subst, _∙_}
-use mathlib.Core.Bool.{Bool, true, false, cond, true≢false}
+use mathlib.Core.Bool.{Bool, true, false, cond, not, true≢false}
 use mathlib.Core.List.{List, [], _∷_, _++_, List·Memᴰ·head, List·Memᴰ·tail}
 use lib.ListN.{length, drop}
 use lib.Seq.{take-append-seam}
 use lib.Dec.{leb}
-use Rattle.protocol.specs.declared.SocksError.the-variants.{ShortOutput, Settled}
+use Rattle.protocol.specs.declared.SocksError.the-variants.{ShortOutput, Settled, OutOfOrder}
 use Rattle.protocol.specs.Bytes.{Bytes}
 use Rattle.protocol.specs.Opening.{Opening, deliveryRoom}
 use Rattle.protocol.specs.Machine.{Machine, machine, used}
@@ -39,18 +39,19 @@ view-packed s (talk.ended (talk.failed e)) = refl
 
 -- ---- one delivery
 
--- a session with these requests kept stands for a side's session, and asks for so much output as long as it waits
+-- a started session with these requests kept stands for a side's session, and asks for so much output as long as it waits
 pub record Stands (r : ℕ) (k : client.Kept) (s : Session) (m : SideSession) : Type 0 where
+  pub going : s .started ≡ true
   pub kept : requestsOf (s .requests) ≡ k
   pub seen : view s ≡ m
   pub waits : Waits r m
 
-module _ (r : ℕ) (s : Session) (w : Waits r (view s)) where
+module _ (r : ℕ) (s : Session) (g : s .started ≡ true) (w : Waits r (view s)) where
   abbrev k : client.Kept
   k = requestsOf (s .requests)
 
   itself : Stands r k s (view s)
-  itself = record { kept = refl; seen = refl; waits = w }
+  itself = record { going = g; kept = refl; seen = refl; waits = w }
 
   moved-waits : (m : SideSession) → Waits r m → (bs : List ℕ) → Waits r (talk.onward (client.client k) m bs .session)
   unfolding talk.onward
@@ -61,16 +62,17 @@ module _ (r : ℕ) (s : Session) (w : Waits r (view s)) where
   takes-alike [] out = record { session = itself; used = omega arith; sent = refl }
   takes-alike (b ∷ bs) out =
       record {
-        session = record { kept = refl; seen = view-packed s (talk.onward (client.client k) (view s) (b ∷ bs) .session); waits = moved-waits (view s) w (b ∷ bs) };
+        session = record { going = g; kept = refl; seen = view-packed s (talk.onward (client.client k) (view s) (b ∷ bs) .session); waits = moved-waits (view s) w (b ∷ bs) };
         used = refl;
         sent = refl;
       }
 
-  answers-alike : (b x y : Bool) → (b ≡ false → x ≡ y) → (p out : List ℕ)
-      → like.Alike (Stands r k) (cond b (refusal Settled s out) (cond x (takes s p out) (refusal ShortOutput s out)))
+  answers-alike : (b h x y : Bool) → h ≡ true → (b ≡ false → x ≡ y) → (p out : List ℕ)
+      → like.Alike (Stands r k) (cond b (refusal Settled s out) (cond (not h) (refusal OutOfOrder s out) (cond x (takes s p out) (refusal ShortOutput s out))))
       (cond b (refusing Settled (view s) out) (cond y (accepting (client.client k) (view s) (given (client.client k) (view s) p) out) (refusing ShortOutput (view s) out)))
-  answers-alike true x y f p out = record { session = itself; used = refl; sent = refl }
-  answers-alike false x y f p out = rw (f refl) (go y)
+  answers-alike true h x y t f p out = record { session = itself; used = refl; sent = refl }
+  answers-alike false false x y t f p out = absurd (true≢false (sym t))
+  answers-alike false true x y t f p out = rw (f refl) (go y)
     where
       go : (z : Bool) → like.Alike (Stands r k) (cond z (takes s p out) (refusal ShortOutput s out))
           (cond z (accepting (client.client k) (view s) (given (client.client k) (view s) p) out) (refusing ShortOutput (view s) out))
@@ -86,7 +88,7 @@ module _ (r : ℕ) (s : Session) (w : Waits r (view s)) where
   alike : (d : Delivery) → like.Alike (Stands r k) (answerTo (receiver r) s d) (answerTo (side.receiver (client.client k) r) (view s) d)
   unfolding deliver side.deliver
   alike d =
-      answers-alike (talk.isOver (view s)) (leb (roomAt (s .stage)) (length (d .output))) (leb r (length (d .output)))
+      answers-alike (talk.isOver (view s)) (s .started) (leb (roomAt (s .stage)) (length (d .output))) (leb r (length (d .output))) g
       (λ z. ap (λ (n : ℕ). leb n (length (d .output))) (asks-same (s .stage) (heldBytes s) w z)) (d .piece) (d .output)
 
 step : (r : ℕ) (k : client.Kept) (s : Session) (m : SideSession) → Stands r k s m → (d : Delivery)
@@ -94,11 +96,11 @@ step : (r : ℕ) (k : client.Kept) (s : Session) (m : SideSession) → Stands r 
 step r k s m t d =
     subst (λ (n : SideSession). like.Alike (Stands r k) (answerTo (receiver r) s d) (answerTo (side.receiver (client.client k) r) n d)) (t .seen)
     (subst (λ (j : client.Kept). like.Alike (Stands r j) (answerTo (receiver r) s d) (answerTo (side.receiver (client.client j) r) (view s) d)) (t .kept)
-    (alike r s (rw (t .seen) (t .waits)) d))
+    (alike r s (t .going) (rw (t .seen) (t .waits)) d))
 
 -- ---- demand 3, of a session that stands for an opening's talk
 
--- what the opening returned: it stands for the talk fed with no byte, and this was sent
+-- what a start returned: it stands for the talk fed with no byte, and this was sent
 pub record Begun (o : Opening) (s : Session) (sent : List ℕ) : Type 0 where
   pub stands : Stands (deliveryRoom o) (client.kept o) s (talk.feed (client.side o) (client.begun o) [] .session)
   pub sends : sent ≡ talk.feed (client.side o) (client.begun o) [] .sent

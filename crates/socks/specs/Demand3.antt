@@ -3,7 +3,8 @@ use Prim.Native.Nat.{ℕ}
 use mathlib.Core.Path.{_≡_}
 use mathlib.Core.Logic.{_↔_}
 use mathlib.Core.List.{List, List·Memᴰ}
-use lib.ListN.{drop}
+use lib.ListN.{take, drop}
+use Rattle.protocol.specs.declared.Answer.the-variants.{Accepted}
 use Rattle.protocol.specs.declared.Outcome.the-variants.{Open}
 use Rattle.protocol.specs.Bytes.{Bytes}
 use Rattle.protocol.specs.Opening.{Opening, deliveryRoom}
@@ -11,7 +12,8 @@ use Rattle.protocol.specs.Machine.{machine, used}
 use Rattle.protocol.specs.Grammar.{Replied, JustOne}
 use Rattle.session.specs.declared.Session.{Session}
 use Rattle.session.specs.Session.{outcome}
-use Rattle.session.specs.Calls.{receiver}
+use Rattle.session.specs.declared.Prepared.{Prepared}
+use Rattle.session.specs.Calls.{start, receiver}
 use Rattle.talk.specs.Tunnel.{Delivery, joined, Tunnel, tunnel}
 
 -- each delivery's piece is a byte string, as a slice of bytes is
@@ -32,7 +34,7 @@ tunnelOf o s sent ds = tunnel (receiver (deliveryRoom o)) s sent ds
 abbrev pub joinedOf : Opening → List Delivery → List ℕ
 joinedOf o ds = joined (receiver (deliveryRoom o)) ds
 
--- of an opening, the session that it returned and the bytes that it sent
+-- of an opening, the session that its start returned and the bytes that this sent
 pub record Demand3 (o : Opening) (s : Session) (sent : List ℕ) (ds : List Delivery) : Type 0 where
   -- open exactly when the joined bytes begin with a reply sequence of the opening's grammar
   pub opens-just : outcome (tunnelOf o s sent ds .session) ≡ Open ↔ Replied o (joinedOf o ds)
@@ -46,3 +48,9 @@ pub record Demand3 (o : Opening) (s : Session) (sent : List ℕ) (ds : List Deli
   pub count-as : tunnelOf o s sent ds .count ≡ used o (joinedOf o ds)
   -- two lists with equal joined bytes are alike in all of these
   pub alike : (ds′ : List Delivery) → joinedOf o ds′ ≡ joinedOf o ds → Alike (tunnelOf o s sent ds′) (tunnelOf o s sent ds)
+
+-- for what preparing returned, any output with which it is started, and every list of deliveries from the session that the start returned
+abbrev pub Tunnelled : Prepared → Opening → Type 0
+Tunnelled p o =
+    (out : List ℕ) → p .answer ≡ Accepted → start (p .session) out .answer ≡ Accepted → (ds : List Delivery) → BytePieces ds
+    → Demand3 o (start (p .session) out .session) (take (start (p .session) out .sent) (start (p .session) out .output)) ds

@@ -1,13 +1,16 @@
--- The lines that document 01 marks with †, computed by the calls: an opening, then the bytes received in two deliveries.
-use Prim.Native.Nat.{ℕ}
+-- The lines that document 01 marks with †, computed by the calls: preparing and a start, then the bytes received in two deliveries.
+use Prim.Native.Nat.{ℕ, _-_}
+use mathlib.Core.Path.{_≡_}
 use mathlib.Core.List.{List, [], _∷_}
 use lib.ListN.{take, drop, replicate}
 use Rattle.protocol.specs.declared.Answer.{Answer}
 use Rattle.protocol.specs.declared.Answer.the-variants.{Accepted, Refused}
-use Rattle.protocol.specs.Numbers.{number, status}
-use Rattle.protocol.specs.Examples.{Case, host, over5, over4, Shown, fails, shown, computed}
+use Rattle.protocol.specs.Numbers.{number, status, answerNumber}
+use Rattle.protocol.specs.Examples.{Case, host, over5, over4, Shown, fails, shown, computed, open5, open4, address}
 use Rattle.session.specs.Session.{outcome}
-use Rattle.session.specs.Calls.{Call, open5, open4, receiver}
+use Rattle.session.specs.declared.Session.{Session}
+use Rattle.session.specs.Calls.{Call, prepare5, prepare4, start, deliver, end, receiver}
+use Rattle.socks.specs.InTwo.{inTwo}
 use Rattle.talk.specs.Tunnel.{Delivery, tunnel}
 
 -- a piece with an output of so many bytes
@@ -28,5 +31,19 @@ ran room c ds made = ranBy (c .answer) room c ds made
 -- a case as the calls have it, each lent what it asks; a host has no call of its own
 abbrev pub called : ℕ → Case → Case
 called n (host h s d) = computed (host h s d)
-called n (over5 a bs r u q) = ran 778 (open5 a (replicate 778 0xEE)) (cutAt 778 n bs) (over5 a bs)
-called n (over4 a bs r u q) = ran 262 (open4 a (replicate 1024 0xEE)) (cutAt 262 n bs) (over4 a bs)
+called n (over5 a bs r u q) = ran 778 (inTwo (prepare5 a) (replicate 778 0xEE)) (cutAt 778 n bs) (over5 a bs)
+called n (over4 a bs r u q) = ran 262 (inTwo (prepare4 a) (replicate 1024 0xEE)) (cutAt 262 n bs) (over4 a bs)
+
+abbrev pub numberOf : Call → ℕ
+numberOf c = answerNumber (c .answer)
+
+-- F-7, worked: the numbers that calls on a prepared session answer in turn: a delivery and an end before the start, which lend nothing; a start with one byte less
+-- than it asks, one with enough, and a second
+abbrev pub inTurn : Session → ℕ → List ℕ
+inTurn s room =
+    let begun = start s (replicate room 0xEE) in
+    numberOf (deliver s (0x05 ∷ []) []) ∷ numberOf (end s) ∷ numberOf (start s (replicate (room - 1) 0xEE)) ∷ numberOf begun ∷ numberOf (start (begun .session) []) ∷ []
+
+pub record Turns : Type 0 where
+  pub over5 : inTurn (prepare5 (open5 address) .session) 778 ≡ 22 ∷ 22 ∷ 1 ∷ 0 ∷ 22 ∷ []
+  pub over4 : inTurn (prepare4 (open4 address) .session) 1024 ≡ 22 ∷ 22 ∷ 1 ∷ 0 ∷ 22 ∷ []

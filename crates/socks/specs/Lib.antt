@@ -1,2 +1,3 @@
+pub mod InTwo
 pub mod Demand3
 pub mod Examples

@@ -1,4 +1,4 @@
-// The client's side of a SOCKS handshake: a session that is opened, fed with pieces, and ended.
+// The client's side of a SOCKS handshake: a session that is prepared, started, fed with pieces, and ended.
 pub mod errors;
 pub mod v4;
 pub mod v5;
@@ -8,6 +8,7 @@ pub use sending::Requests;
 pub use sending::Stage;
 pub use session::Delivered;
 pub use session::Ended;
-pub use session::Opened;
+pub use session::Prepared;
 pub use session::Session;
+pub use session::Started;
 pub use wire::rest;

@@ -1,2 +1,2 @@
-// Opening a session over SOCKS4 and SOCKS4A.
-pub use openings_v4::open;
+// Preparing a session over SOCKS4 and SOCKS4A.
+pub use openings_v4::prepare;

@@ -1,2 +1,2 @@
-// Opening a session over SOCKS5.
-pub use openings_v5::open;
+// Preparing a session over SOCKS5.
+pub use openings_v5::prepare;

@@ -66,7 +66,7 @@ pub record Tunnel (X : Type 0) : Type 0 where
   pub count : ℕ
   pub rest : List ℕ
 
--- from the session that an opening returned and the bytes that it sent
+-- from the session that a start returned and the bytes that it sent
 abbrev pub tunnel : {X A : Type 0} → Receiver X A → X → List ℕ → List Delivery → Tunnel X
 tunnel K s opening ds = record { session = after K s ds; sent = opening ++ sentBy K s ds; count = total K s ds; rest = rests K s ds }
 

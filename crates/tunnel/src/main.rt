@@ -6,8 +6,9 @@ use protocol::Port;
 use protocol::Record;
 use protocol::SocksConfig;
 use socks::Delivered;
-use socks::Opened;
+use socks::Prepared;
 use socks::Session;
+use socks::Started;
 use socks::errors;
 ghost use mathlib.Core.Path.{_≡_};
 ghost use Prim.Native.Nat.{_+_, _%_, _^_, _≤_};
@@ -60,10 +61,7 @@ fn numbers_of(outcome: Outcome) -> Numbers
     }
 }
 
-// The opening.
-fn begin(out: &mut [u8]) -> Opened
-    ensures { λ r. ⌜ r .sent ≤ length (now (out .exit)) ⌝ }
-{
+fn prepare() -> Prepared {
     let config = SocksConfig {
         proxy_auth: false,
         local_dns: false,
@@ -73,7 +71,7 @@ fn begin(out: &mut [u8]) -> Opened
         family: Family::Four,
         address: [0u8; 16],
     };
-    owned_records::open5(
+    owned_records::prepare5(
         config,
         b"192.0.2.7",
         Port::Given(443),
@@ -81,8 +79,16 @@ fn begin(out: &mut [u8]) -> Opened
         b"",
         [none; 8],
         0,
-        out,
     )
+}
+
+// The session, prepared and started.
+fn begin(out: &mut [u8]) -> Started
+    ensures { λ r. ⌜ r .sent ≤ length (now (out .exit)) ⌝ }
+{
+    let prepared = prepare();
+    let session = prepared.session;
+    session.start(out)
 }
 
 // A delivery.
@@ -110,10 +116,10 @@ struct Course {
 fn start(out: &mut [u8]) -> Course
     requires { ⌜ length (now out) ≤ 1024 ⌝ }
 {
-    let opened = begin(out);
+    let started = begin(out);
     io::write_all(STDOUT_FILENO, b"sent ");
-    print_sent(out, opened.sent);
-    let session = opened.session;
+    print_sent(out, started.sent);
+    let session = started.session;
     Course {
         session,
         used: 0,

@@ -25,7 +25,7 @@ use Rattle.talk.specs.Talk.{failed, ended, waiting, unmoved, sending, moving, f
 -- ---- what a good reply makes due, the talk sends
 
 module _ (c : Kept) (e : Reply) (bs b : List ℕ) where
-  -- a part, sent unless it went at the opening; what stands before it is passed unless that went too
+  -- a part, sent unless it went at the start; what stands before it is passed unless that went too
   part-due : (o : Bool) (from n m : ℕ) → feed (client c) (due o (part b (from + m) n) (talkAt c e)) bs ≡ sending (part b (from + unlessGone o m) (unlessGone o n)) (feed (client c) (talkAt c e) bs)
   unfolding feed
   part-due true from n m = refl

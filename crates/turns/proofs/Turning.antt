@@ -5,8 +5,8 @@ use native.Mathlib.Omega.{arith}
 use mathlib.Core.Path.{_≡_, refl, ap, sym, _∙_}
 use mathlib.Core.Bool.{Bool, true, false}
 use mathlib.Core.List.{List, [], _++_, append-assoc, append-nil}
-use lib.ListN.{length, take, drop, length-drop}
-use lib.Seq.{drop-drop, take-add}
+use lib.ListN.{length, drop, length-drop}
+use lib.Seq.{drop-drop}
 use borrow.Author.Tests.{ltb-false}
 use Rattle.protocol.specs.declared.AuthMethod.the-variants.{NoAuth, UserPass, NoneAcceptable}
 use Rattle.protocol.specs.declared.Reply.{Reply}
@@ -28,7 +28,7 @@ use Rattle.sending.specs.Parts.{part}
 use Rattle.sending.specs.Due.{dueAfter, dueJudged, dueFrom, stillDue}
 use Rattle.reading.specs.Fewest.{fewest}
 use Rattle.reading.proofs.Reading.{too-few}
-use Rattle.sending.proofs.Sending.{still-after}
+use Rattle.sending.proofs.Sending.{still-after, part-on}
 use Rattle.sending.proofs.Stages.{awaits}
 use Rattle.turns.specs.declared.Turn.{Turn}
 use Rattle.turns.specs.Turns.{keptIn, onStage, goesOn, Rests, Turns, Worked}
@@ -101,10 +101,6 @@ next-on l from sent (NegotiationRes NoneAcceptable) q = tt
 next-on l from sent AuthenticationRes q = tt
 next-on l from sent ProxyRes q = tt
 next-on l from sent Response q = tt
-
--- two parts, the second behind the first
-part-on : (b : List ℕ) (from n m : ℕ) → part b from n ++ part b (from + n) m ≡ part b from (n + m)
-part-on b from n m = ap (λ (l : List ℕ). take n (drop from b) ++ take m l) (sym (drop-drop n from b)) ∙ sym (take-add n m (drop from b))
 
 part-none : (b : List ℕ) (from n at : ℕ) → part b from n ++ part b at 0 ≡ part b from (n + 0)
 part-none b from n at = append-nil (part b from n) ∙ ap (part b from) (sym (add-zero n))

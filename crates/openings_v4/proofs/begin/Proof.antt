@@ -1,4 +1,4 @@
-use Rattle.openings_v4.proofs.Opening.{short4, begins4, refuses4}
+use Rattle.openings_v4.proofs.Preparing.{short4, returns4, refuses4}
 use borrow.Author.Needs.{needs}
 use Rattle.openings_v4.proofs.begin.Statement.{statement}
 use Rattle.openings_v4.proofs.begin.Tie as tie
@@ -12,6 +12,9 @@ finds-four-requires c κs = search needs
 asked-requires : tie.Need-asked-requires
 asked-requires c κs = search needs
 
+is-announcing-requires : tie.Need-is-announcing-requires
+is-announcing-requires c κs = search needs
+
 check4-requires : tie.Need-check4-requires
 check4-requires c κs = search needs
 
@@ -20,11 +23,13 @@ enum-told c = search needs
 
 accept-requires : tie.Need-accept-requires
 accept-requires c κs =
-    let start = c .before .before .before .before .before .before .before .before .before .before in
+    let c4 = c .before .before .before in
+    let c3 = c4 .before .before in
+    let start = c3 .before .before .before .before .before .before in
     let a = start .args in (
       start .pre,
-      short4 (a .local-dns) (a .host .now) (a .read) (a .port) (a .chosen) (a .room) (c .before .before .before .before .before .before .before .strip-ipv6-brackets .ensures) (c .before .before .before .check4 .ensures)
-          (c .before .before .before .before .before .finds-four .ensures) (c .before .before .before .before .asked .ensures) (c .before .enum-told .given .1),
+      short4 (a .local-dns) (a .host .now) (a .read) (a .port) (a .chosen) (c3 .before .before .before .strip-ipv6-brackets .ensures) (c3 .before .finds-four .ensures) (c3 .asked .ensures) (c4 .before .is-announcing .ensures) (c4 .check4 .ensures)
+          (c .before .enum-told .given .1),
     )
 
 enum-known-answer : tie.Need-enum-known-answer
@@ -38,15 +43,19 @@ same-length c = search needs
 
 returns : tie.Need-returns
 returns c =
-    let a = c .before .before .before .before .before .before .before .before .before .before .before .before .before .args in
-    begins4 (a .local-dns) (a .host .now) (a .read) (a .port) (a .chosen) (a .room) (c .before .before .before .before .before .before .before .before .before .before .strip-ipv6-brackets .ensures) (c .before .before .before .before .before .before .check4 .ensures)
-    (c .before .before .before .before .before .before .before .before .finds-four .ensures) (c .before .before .before .before .before .before .before .asked .ensures) (c .before .before .before .before .enum-told .given .1) (c .before .before .accept .ensures)
+    let c4 = c .before .before .before .before .before .before in
+    let c3 = c4 .before .before in
+    let a = c3 .before .before .before .before .before .before .args in
+    returns4 (a .local-dns) (a .host .now) (a .read) (a .port) (a .chosen) (c3 .before .before .before .strip-ipv6-brackets .ensures) (c3 .before .finds-four .ensures) (c3 .asked .ensures) (c4 .before .is-announcing .ensures) (c4 .check4 .ensures)
+    (c .before .before .before .before .enum-told .given .1) (c .before .before .accept .ensures)
 
 returns-2 : tie.Need-returns-2
 returns-2 c =
-    let start = c .before .before .before .before .before .before .before .before .before .before .before in
+    let c4 = c .before .before .before .before in
+    let c3 = c4 .before .before in
+    let start = c3 .before .before .before .before .before .before in
     let a = start .args in
-    refuses4 (a .local-dns) (a .host .now) (a .read) (a .port) (a .chosen) (a .room) (c .before .before .before .before .before .before .before .before .strip-ipv6-brackets .ensures) (c .before .before .before .before .check4 .ensures) (c .before .before .answer .given .1) (c .refuse .ensures) (start .pre)
+    refuses4 (a .local-dns) (a .host .now) (a .read) (a .port) (a .chosen) (c3 .before .before .before .strip-ipv6-brackets .ensures) (c3 .before .finds-four .ensures) (c3 .asked .ensures) (c4 .before .is-announcing .ensures) (c4 .check4 .ensures) (c .before .before .answer .given .1) (c .refuse .ensures) (start .pre)
 
 pub begin-spec : {M : Type 1} → statement M
 begin-spec =
@@ -55,6 +64,7 @@ begin-spec =
     strip-ipv6-brackets-requires
     finds-four-requires
     asked-requires
+    is-announcing-requires
     check4-requires
     enum-told
     accept-requires

@@ -1,12 +1,8 @@
-use mathlib.Core.Path.{_≡_}
-use lib.ListN.{length}
+use Rattle.openings.specs.Asked.{target5}
 use Rattle.openings_v5.proofs.Keeping.{accepts5}
 use borrow.Author.Needs.{needs}
 use Rattle.openings_v5.proofs.accept.Statement.{statement}
 use Rattle.openings_v5.proofs.accept.Tie as tie
-
-sixteen : (c : tie.Start) → length (c .args .asked .bytes) ≡ 16
-sixteen c = search needs
 
 port-number-requires : tie.Need-port-number-requires
 port-number-requires c κs = search needs
@@ -22,9 +18,8 @@ same-length c = search needs
 
 returns : tie.Need-returns
 returns c =
-    let start = c .before .before .before .before .before .before .before .before .before .before in
-    let a = start .args in
-    accepts5 (a .config .«proxy_auth») (a .user .now) (a .password .now) (a .asked) (a .text .now) (a .port) (a .config .optimistic) (sixteen start) (start .pre .1)
+    let a = c .before .before .before .before .before .before .before .before .before .before .args in
+    accepts5 (a .config .«proxy_auth») (a .user .now) (a .password .now) (target5 (a .asked) (a .text .now)) (a .port) (a .config .optimistic)
     (c .before .before .before .before .port-number .ensures) (c .method-of .ensures) (c .before .before .before .keep .ensures)
 
 pub accept-spec : {M : Type 1} → statement M

@@ -1,4 +1,4 @@
-use Rattle.openings_v5.proofs.Opening.{short5, begins5, refuses5}
+use Rattle.openings_v5.proofs.Preparing.{short5, returns5, refuses5}
 use borrow.Author.Needs.{needs}
 use Rattle.openings_v5.proofs.begin.Statement.{statement}
 use Rattle.openings_v5.proofs.begin.Tie as tie
@@ -23,7 +23,7 @@ accept-requires c κs =
     let start = c .before .before .before .before .before .before .before .before .before .before .before .before in
     let a = start .args in (
       start .pre,
-      short5 (a .config) (a .host .now) (a .read) (a .port) (a .user .now) (a .password .now) (a .chosen) (a .room) (c .before .before .before .before .before .before .before .strip-ipv6-brackets .ensures) (c .before .before .before .check5 .ensures)
+      short5 (a .config) (a .host .now) (a .read) (a .port) (a .user .now) (a .password .now) (a .chosen) (c .before .before .before .before .before .before .before .strip-ipv6-brackets .ensures) (c .before .before .before .check5 .ensures)
           (c .before .before .before .before .before .both .ensures) (c .before .before .before .before .asked .ensures) (c .before .enum-told .given .1),
     )
 
@@ -39,14 +39,14 @@ same-length c = search needs
 returns : tie.Need-returns
 returns c =
     let a = c .before .before .before .before .before .before .before .before .before .before .before .before .before .before .before .args in
-    begins5 (a .config) (a .host .now) (a .read) (a .port) (a .user .now) (a .password .now) (a .chosen) (a .room) (c .before .before .before .before .before .before .before .before .before .before .strip-ipv6-brackets .ensures) (c .before .before .before .before .before .before .check5 .ensures)
+    returns5 (a .config) (a .host .now) (a .read) (a .port) (a .user .now) (a .password .now) (a .chosen) (c .before .before .before .before .before .before .before .before .before .before .strip-ipv6-brackets .ensures) (c .before .before .before .before .before .before .check5 .ensures)
     (c .before .before .before .before .before .before .before .before .both .ensures) (c .before .before .before .before .before .before .before .asked .ensures) (c .before .before .before .before .enum-told .given .1) (c .before .before .accept .ensures)
 
 returns-2 : tie.Need-returns-2
 returns-2 c =
     let start = c .before .before .before .before .before .before .before .before .before .before .before .before .before in
     let a = start .args in
-    refuses5 (a .config) (a .host .now) (a .read) (a .port) (a .user .now) (a .password .now) (a .chosen) (a .room) (c .before .before .before .before .before .before .before .before .strip-ipv6-brackets .ensures) (c .before .before .before .before .check5 .ensures)
+    refuses5 (a .config) (a .host .now) (a .read) (a .port) (a .user .now) (a .password .now) (a .chosen) (c .before .before .before .before .before .before .before .before .strip-ipv6-brackets .ensures) (c .before .before .before .before .check5 .ensures)
     (c .before .before .answer .given .1) (c .refuse .ensures) (start .pre)
 
 pub begin-spec : {M : Type 1} → statement M

@@ -1,21 +1,22 @@
 use native.Mathlib.Omega.{arith}
 use mathlib.Core.Path.{_≡_}
 use lib.ListN.{take}
-use Rattle.session.proofs.Deliveries.{take-least, receives-short, receives-none, receives-taken}
+use borrow.Author.Tests.{not-true, not-false}
+use Rattle.session.proofs.Deliveries.{take-least, receives-unstarted, receives-short, receives-none, receives-taken}
 use borrow.Author.Needs.{needs}
 use Rattle.session.proofs.receive_awaiting.Statement.{statement}
 use Rattle.session.proofs.receive_awaiting.Tie as tie
-
-room-of-requires : tie.Need-room-of-requires
-room-of-requires c κs = search needs
 
 unchanged-requires : tie.Need-unchanged-requires
 unchanged-requires c κs = search needs
 
 returns : tie.Need-returns
 returns c =
-    let a = c .before .before .before .before .before .args in
-    receives-short (a .held) (a .lengths) (a .hold .now) (a .piece .now) (a .room) (a .reply) (omega (arith, c .before .before .room-of .ensures, c .before .if1 .taken)) (c .unchanged .ensures)
+    let a = c .before .before .before .before .args in
+    receives-unstarted (a .started) (a .held) (a .lengths) (a .hold .now) (a .piece .now) (a .room) (a .reply) (not-true _ (c .before .if1 .taken)) (c .unchanged .ensures)
+
+room-of-requires : tie.Need-room-of-requires
+room-of-requires c κs = search needs
 
 unchanged-requires-2 : tie.Need-unchanged-requires-2
 unchanged-requires-2 c κs = search needs
@@ -23,7 +24,15 @@ unchanged-requires-2 c κs = search needs
 returns-2 : tie.Need-returns-2
 returns-2 c =
     let a = c .before .before .before .before .before .before .args in
-    receives-none (a .held) (a .lengths) (a .hold .now) (a .piece .now) (a .room) (a .reply) (omega (arith, c .before .before .before .room-of .ensures, c .before .before .if1 .left)) (c .before .if2 .taken) (c .unchanged2 .ensures)
+    receives-short (a .started) (a .held) (a .lengths) (a .hold .now) (a .piece .now) (a .room) (a .reply) (not-false _ (c .before .before .before .if1 .left)) (omega (arith, c .before .before .room-of .ensures, c .before .if2 .taken)) (c .unchanged2 .ensures)
+
+unchanged-requires-3 : tie.Need-unchanged-requires-3
+unchanged-requires-3 c κs = search needs
+
+returns-3 : tie.Need-returns-3
+returns-3 c =
+    let a = c .before .before .before .before .before .before .before .args in
+    receives-none (a .started) (a .held) (a .lengths) (a .hold .now) (a .piece .now) (a .room) (a .reply) (not-false _ (c .before .before .before .before .if1 .left)) (omega (arith, c .before .before .before .room-of .ensures, c .before .before .if2 .left)) (c .before .if3 .taken) (c .unchanged3 .ensures)
 
 least-requires : tie.Need-least-requires
 least-requires c κs = search needs
@@ -34,25 +43,28 @@ take-requires c κs = search needs
 same-length : tie.Need-same-length
 same-length c = search needs
 
-returns-3 : tie.Need-returns-3
-returns-3 c =
-    let start = c .before .before .before .before .before .before .before .before .before .before in
+returns-4 : tie.Need-returns-4
+returns-4 c =
+    let c3 = c .before .before .before .before .before in
+    let start = c3 .before .before .before .before .before .before in
     let a = start .args in
-    let z = c .before .before .before .before .before .if2 .left in
+    let z = c3 .if3 .left in
     let held : take (c .before .before .before .least .result) (a .hold .now) ≡ take (a .held) (a .hold .now) = rw (c .before .before .before .least .ensures) (take-least (a .held) (a .hold .now) (start .pre)) in
-    receives-taken (a .held) (a .lengths) (a .hold .now) (a .piece .now) (a .room) (a .reply) held (c .before .before .take .ensures)
-    (omega (arith, c .before .before .before .before .before .before .before .room-of .ensures, c .before .before .before .before .before .before .if1 .left)) (λ y. omega arith)
+    receives-taken (a .started) (a .held) (a .lengths) (a .hold .now) (a .piece .now) (a .room) (a .reply) held (c .before .before .take .ensures) (not-false _ (c3 .before .before .before .if1 .left))
+    (omega (arith, c3 .before .before .room-of .ensures, c3 .before .if2 .left)) (λ y. omega arith)
 
 pub receive-awaiting-spec : {M : Type 1} → statement M
 receive-awaiting-spec =
     tie.close
     (tie.spec
-    room-of-requires
     unchanged-requires
     returns
+    room-of-requires
     unchanged-requires-2
     returns-2
+    unchanged-requires-3
+    returns-3
     least-requires
     take-requires
     same-length
-    returns-3)
+    returns-4)

@@ -26,7 +26,7 @@ returns : tie.Need-returns
 returns c =
     let c4 = c .before .before .before .before in
     let a = c4 .before .before .before .before .before .args in
-    checked5 (a .text .now) (a .kind) (a .port) (a .room) (recordsOf (a .chosen)) (c4 .before .is-name .ensures) (a .config) (a .user .now) (a .password .now) (c4 .finds-none .ensures) (c .before .before .before .check-name .ensures) (c .before .before .credentials-too-long .ensures) (c .before .refuse-if .ensures) (c .check-shared .ensures)
+    checked5 (a .text .now) (a .kind) (a .port) (recordsOf (a .chosen)) (c4 .before .is-name .ensures) (a .config) (a .user .now) (a .password .now) (c4 .finds-none .ensures) (c .before .before .before .check-name .ensures) (c .before .before .credentials-too-long .ensures) (c .before .refuse-if .ensures) (c .check-shared .ensures)
 
 pub check5-spec : {M : Type 1} → statement M
 check5-spec =

@@ -1,0 +1,208 @@
+use borrow.Author.Needs.{needs}
+use Rattle.error_numbers.proofs.numbers_of.Statement.{statement}
+use Rattle.error_numbers.proofs.numbers_of.Tie as tie
+
+enum-told : tie.Need-enum-told
+enum-told c = search needs
+
+alone-requires : tie.Need-alone-requires
+alone-requires c κs = search needs
+
+enum-told-2 : tie.Need-enum-told-2
+enum-told-2 c = search needs
+
+alone-requires-2 : tie.Need-alone-requires-2
+alone-requires-2 c κs = search needs
+
+enum-told-3 : tie.Need-enum-told-3
+enum-told-3 c = search needs
+
+alone-requires-3 : tie.Need-alone-requires-3
+alone-requires-3 c κs = search needs
+
+enum-told-4 : tie.Need-enum-told-4
+enum-told-4 c = search needs
+
+alone-requires-4 : tie.Need-alone-requires-4
+alone-requires-4 c κs = search needs
+
+enum-told-5 : tie.Need-enum-told-5
+enum-told-5 c = search needs
+
+alone-requires-5 : tie.Need-alone-requires-5
+alone-requires-5 c κs = search needs
+
+enum-told-6 : tie.Need-enum-told-6
+enum-told-6 c = search needs
+
+alone-requires-6 : tie.Need-alone-requires-6
+alone-requires-6 c κs = search needs
+
+enum-told-7 : tie.Need-enum-told-7
+enum-told-7 c = search needs
+
+alone-requires-7 : tie.Need-alone-requires-7
+alone-requires-7 c κs = search needs
+
+enum-told-8 : tie.Need-enum-told-8
+enum-told-8 c = search needs
+
+alone-requires-8 : tie.Need-alone-requires-8
+alone-requires-8 c κs = search needs
+
+enum-told-9 : tie.Need-enum-told-9
+enum-told-9 c = search needs
+
+alone-requires-9 : tie.Need-alone-requires-9
+alone-requires-9 c κs = search needs
+
+enum-told-10 : tie.Need-enum-told-10
+enum-told-10 c = search needs
+
+alone-requires-10 : tie.Need-alone-requires-10
+alone-requires-10 c κs = search needs
+
+enum-told-11 : tie.Need-enum-told-11
+enum-told-11 c = search needs
+
+alone-requires-11 : tie.Need-alone-requires-11
+alone-requires-11 c κs = search needs
+
+enum-told-12 : tie.Need-enum-told-12
+enum-told-12 c = search needs
+
+alone-requires-12 : tie.Need-alone-requires-12
+alone-requires-12 c κs = search needs
+
+enum-told-13 : tie.Need-enum-told-13
+enum-told-13 c = search needs
+
+alone-requires-13 : tie.Need-alone-requires-13
+alone-requires-13 c κs = search needs
+
+enum-known-error : tie.Need-enum-known-error
+enum-known-error c = search needs
+
+enum-told-14 : tie.Need-enum-told-14
+enum-told-14 c = search needs
+
+alone-requires-14 : tie.Need-alone-requires-14
+alone-requires-14 c κs = search needs
+
+enum-told-15 : tie.Need-enum-told-15
+enum-told-15 c = search needs
+
+alone-requires-15 : tie.Need-alone-requires-15
+alone-requires-15 c κs = search needs
+
+enum-told-16 : tie.Need-enum-told-16
+enum-told-16 c = search needs
+
+alone-requires-16 : tie.Need-alone-requires-16
+alone-requires-16 c κs = search needs
+
+returns : tie.Need-returns
+returns c = rw (c .before .enum-told .given .1) (c .alone .ensures)
+
+returns-2 : tie.Need-returns-2
+returns-2 c = rw (c .before .enum-told2 .given .1) (c .alone2 .ensures)
+
+returns-3 : tie.Need-returns-3
+returns-3 c = rw (c .before .enum-told3 .given .1) (c .alone3 .ensures)
+
+returns-4 : tie.Need-returns-4
+returns-4 c = rw (c .before .enum-told4 .given .1) (c .alone4 .ensures)
+
+returns-5 : tie.Need-returns-5
+returns-5 c = rw (c .before .enum-told5 .given .1) (c .alone5 .ensures)
+
+returns-6 : tie.Need-returns-6
+returns-6 c = rw (c .before .enum-told6 .given .1) (c .alone6 .ensures)
+
+returns-7 : tie.Need-returns-7
+returns-7 c = rw (c .before .enum-told7 .given .1) (c .alone7 .ensures)
+
+returns-8 : tie.Need-returns-8
+returns-8 c = rw (c .before .enum-told8 .given .1) (c .alone8 .ensures)
+
+returns-9 : tie.Need-returns-9
+returns-9 c = rw (c .before .enum-told9 .given .1) (c .alone9 .ensures)
+
+returns-10 : tie.Need-returns-10
+returns-10 c = rw (c .before .enum-told10 .given .1) (c .alone10 .ensures)
+
+returns-11 : tie.Need-returns-11
+returns-11 c = rw (c .before .enum-told11 .given .1) (c .alone11 .ensures)
+
+returns-12 : tie.Need-returns-12
+returns-12 c = rw (c .before .enum-told12 .given .1) (c .alone12 .ensures)
+
+returns-13 : tie.Need-returns-13
+returns-13 c = rw (c .before .enum-told13 .given .1) (c .alone13 .ensures)
+
+returns-14 : tie.Need-returns-14
+returns-14 c = rw (c .before .error .given .1)
+
+returns-15 : tie.Need-returns-15
+returns-15 c = rw (c .before .enum-told14 .given .1) (c .alone14 .ensures)
+
+returns-16 : tie.Need-returns-16
+returns-16 c = rw (c .before .enum-told15 .given .1) (c .alone15 .ensures)
+
+returns-17 : tie.Need-returns-17
+returns-17 c = rw (c .before .enum-told16 .given .1) (c .alone16 .ensures)
+
+pub numbers-of-spec : {M : Type 1} → statement M
+numbers-of-spec =
+    tie.close
+    (tie.spec
+    enum-told
+    alone-requires
+    enum-told-2
+    alone-requires-2
+    enum-told-3
+    alone-requires-3
+    enum-told-4
+    alone-requires-4
+    enum-told-5
+    alone-requires-5
+    enum-told-6
+    alone-requires-6
+    enum-told-7
+    alone-requires-7
+    enum-told-8
+    alone-requires-8
+    enum-told-9
+    alone-requires-9
+    enum-told-10
+    alone-requires-10
+    enum-told-11
+    alone-requires-11
+    enum-told-12
+    alone-requires-12
+    enum-told-13
+    alone-requires-13
+    enum-known-error
+    enum-told-14
+    alone-requires-14
+    enum-told-15
+    alone-requires-15
+    enum-told-16
+    alone-requires-16
+    returns
+    returns-2
+    returns-3
+    returns-4
+    returns-5
+    returns-6
+    returns-7
+    returns-8
+    returns-9
+    returns-10
+    returns-11
+    returns-12
+    returns-13
+    returns-14
+    returns-15
+    returns-16
+    returns-17)
