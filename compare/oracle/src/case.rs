@@ -1,12 +1,13 @@
-//! A case of `replay`: what preparing, the start and the deliveries are given, and its bytes.
+//! A case of `replay`: what preparing, the start, the deliveries and the text are given, and its bytes.
 
 pub const CREDENTIALS: u8 = 1;
 pub const LOCAL_LOOKUP: u8 = 2;
 pub const OPTIMISTIC: u8 = 4;
 pub const PORT: u8 = 8;
 pub const END: u8 = 16;
+pub const TEXT: u8 = 32;
 
-// Output lent above this counts as this.
+// Output or a text buffer lent above this counts as this.
 const MOST_LENT: u16 = 2048;
 
 // Family 4 or 6, and the address, of which family 4 uses the first four bytes.
@@ -29,6 +30,8 @@ pub struct Case {
     pub password: Vec<u8>,
     pub records: Vec<Record>,
     pub deliveries: Vec<Delivery>,
+    // of the text buffer; written and read if the text is asked for
+    pub text_lent: u16,
 }
 
 pub fn lent(n: u16) -> usize {
@@ -63,6 +66,9 @@ impl Case {
             out.extend(d.lent.to_be_bytes());
             text(out, &d.piece);
         }
+        if self.has(TEXT) {
+            out.extend(self.text_lent.to_be_bytes());
+        }
     }
 
     pub fn bytes(&self) -> Vec<u8> {
@@ -81,7 +87,8 @@ impl Case {
         let (host, user, password) = (read_text(&mut left)?, read_text(&mut left)?, read_text(&mut left)?);
         let records = (0..byte(&mut left)?).map(|_| read_record(&mut left)).collect::<Option<_>>()?;
         let deliveries = (0..number(&mut left)?).map(|_| read_delivery(&mut left)).collect::<Option<_>>()?;
-        Some(Case { version, flags, port, lent, host, user, password, records, deliveries })
+        let text_lent = if flags & TEXT != 0 { number(&mut left)? } else { 0 };
+        Some(Case { version, flags, port, lent, host, user, password, records, deliveries, text_lent })
     }
 }
 

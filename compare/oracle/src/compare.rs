@@ -1,5 +1,5 @@
 //! Random cases: the original and the model against each other, and `replay` against both.
-use crate::case::{Case, hex, lent};
+use crate::case::{Case, TEXT, hex, lent};
 use crate::expect::expect;
 use crate::model::Line;
 use crate::shrink::{Differs, shrink};
@@ -32,7 +32,7 @@ fn run(replay: &str, input: Vec<u8>) -> Vec<String> {
 }
 
 // A line for each case; where it stops too soon, it begins anew behind the case that stopped it.
-fn ask(replay: &str, cases: &[Case]) -> Vec<String> {
+pub fn ask(replay: &str, cases: &[Case]) -> Vec<String> {
     let mut lines = vec![];
     while lines.len() < cases.len() {
         let mut input = vec![];
@@ -82,6 +82,7 @@ struct Figures {
     most_sent: usize,
     outcomes: BTreeMap<Option<u8>, usize>,
     statuses: BTreeMap<u8, usize>,
+    texts: BTreeMap<u8, usize>,
 }
 
 impl Figures {
@@ -101,6 +102,9 @@ impl Figures {
         if line.status != 0 {
             *self.statuses.entry(line.status).or_default() += 1;
         }
+        if let Some((answer, _)) = line.bound {
+            *self.texts.entry(answer).or_default() += 1;
+        }
     }
 
     fn text(&self) -> String {
@@ -108,11 +112,14 @@ impl Figures {
             None => format!("waiting {count}"),
             Some(n) => format!("{n}: {count}"),
         });
-        let statuses = self.statuses.iter().map(|(n, count)| format!("{n}: {count}"));
+        let counts = |of: &BTreeMap<u8, usize>| {
+            of.iter().map(|(n, count)| format!("{n}: {count}")).collect::<Vec<_>>().join(", ")
+        };
         format!(
             "{} told by the Rust too, {} by the model alone where the Rust ends with WouldOverflow\n\
             {} whose start is refused with 1, {} that lend it as little and that preparing refuses\n\
-            {} in pieces of one byte, {} bytes in all, at most {} sent over v5\noutcomes: {}\nstatuses: {}",
+            {} in pieces of one byte, {} bytes in all, at most {} sent over v5\noutcomes: {}\nstatuses: {}\n\
+            answers of the text: {}",
             self.told,
             self.overflows,
             self.refused,
@@ -121,7 +128,8 @@ impl Figures {
             self.bytes,
             self.most_sent,
             outcomes.collect::<Vec<_>>().join(", "),
-            statuses.collect::<Vec<_>>().join(", ")
+            counts(&self.statuses),
+            counts(&self.texts)
         )
     }
 }
@@ -203,15 +211,25 @@ impl Run {
 }
 
 // Every way that the input may end inside a case; answers how many were tried and how many came out wrong.
-fn endings(replay: &str, seed: u64) -> (usize, usize) {
-    let small = |case: &Case| case.bytes().len() < 200 && !case.records.is_empty() && case.deliveries.len() > 1;
-    let case = (0..).map(|n| generate::case(seed, n)).find(small).unwrap();
-    let (bytes, good) = (case.bytes(), model::answer(&case).text());
+fn endings(replay: &str, case: &Case) -> (usize, usize) {
+    let (bytes, good) = (case.bytes(), model::answer(case).text());
     let bad = (1..bytes.len()).filter(|n| {
         let lines = run(replay, [&bytes, &bytes[..*n]].concat());
         lines != [good.clone(), format!("bad case at {}", bytes.len())]
     });
     (bytes.len() - 1, bad.count())
+}
+
+// A case with more records than eight is passed over, the length of its text buffer too; answers as above.
+fn many_records(replay: &str, case: &Case) -> (usize, usize) {
+    let (bytes, good) = (case.bytes(), model::answer(case).text());
+    let wanted = [good.clone(), format!("too many records at {}", bytes.len()), good];
+    let ways = [9, 10, 255].map(|n| [(n, case.flags), (n, case.flags & !TEXT)]).concat();
+    let bad = ways.iter().filter(|(n, flags)| {
+        let many = Case { flags: *flags, records: vec![(6, [1; 16]); *n], ..case.clone() };
+        run(replay, [&bytes[..], &many.bytes(), &bytes].concat()) != wanted
+    });
+    (ways.len(), bad.count())
 }
 
 // Answers whether all is the same. Without `replay`: the original and the model alone.
@@ -227,9 +245,15 @@ pub fn random(seed: u64, count: u64, replay: Option<String>, plant: Option<u64>)
     }
     println!("{}", run.figures.text());
     if let Some(replay) = &run.replay {
-        let (tried, bad) = endings(replay, seed);
+        let small = |case: &Case| {
+            case.bytes().len() < 200 && case.has(TEXT) && !case.records.is_empty() && case.deliveries.len() > 1
+        };
+        let case = (0..).map(|n| generate::case(seed, n)).find(small).unwrap();
+        let (tried, bad) = endings(replay, &case);
         println!("input that ends inside a case: {tried} ways, {bad} answered wrongly");
-        run.differences += bad;
+        let (tried, worse) = many_records(replay, &case);
+        println!("more than eight records: {tried} ways, {worse} answered wrongly");
+        run.differences += bad + worse;
     }
     println!("seed {seed}: {count} cases, {} differences", run.differences);
     run.differences == 0

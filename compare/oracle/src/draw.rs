@@ -83,6 +83,35 @@ impl Random {
         (0..n).map(|_| self.number()).collect::<Vec<_>>().join(".")
     }
 
+    // Rich in zero groups and in short ones, and in the forms that hold an IPv4 address.
+    pub fn six(&mut self) -> [u8; 16] {
+        let zeros = self.below(8);
+        let mut groups = [0u16; 8];
+        for group in &mut groups {
+            *group = match self.below(8) {
+                n if n < zeros => 0,
+                n if n % 2 == 0 => self.one_of(&[1, 9, 0xA, 0xF, 0x10, 0xFF, 0x100, 0xFFF, 0x1000, 0xA000, 0xFFFF]),
+                _ => self.next() as u16,
+            };
+        }
+        if self.once_in(12) {
+            groups[..6].copy_from_slice(&[0, 0, 0, 0, 0, self.one_of(&[0, 0xFFFF, 0xFFFF, 0xFFFE])]);
+        }
+        std::array::from_fn(|i| groups[i / 2].to_be_bytes()[i % 2])
+    }
+
+    pub fn four(&mut self) -> [u8; 4] {
+        [(); 4]
+            .map(|()| if self.once_in(2) { self.byte() } else { self.one_of(&[0, 1, 9, 10, 99, 100, 199, 200, 255]) })
+    }
+
+    pub fn port(&mut self) -> u16 {
+        match self.below(3) {
+            0 => self.next() as u16,
+            _ => self.one_of(&[0, 1, 9, 10, 99, 100, 255, 256, 443, 999, 1000, 9999, 10000, 65535]),
+        }
+    }
+
     fn group(&mut self) -> String {
         let n = 1 + self.below(4) + usize::from(self.once_in(40));
         String::from_utf8(self.text(n, b"0000123456789abcdefABCDEF")).unwrap()

@@ -12,20 +12,58 @@ const LONG_NAMES: [usize; 6] = [1013, 1014, 1015, 1016, 1017, 5000];
 const CREDENTIALS_OF: [usize; 20] =
     [0, 0, 1, 2, 3, 8, 20, 120, 121, 122, 123, 124, 125, 130, 246, 247, 253, 254, 255, 256];
 
+// Text buffers lent, whatever the text's length.
+const TEXTS: [u16; 12] = [0, 1, 2, 47, 48, 260, 261, 262, 2047, 2048, 2049, 65535];
+
 type Lent = (&'static [u16], &'static [u16]);
 
+// About half of the cases ask for the text.
 pub fn case(seed: u64, number: u64) -> Case {
     let mut r = Random::new(seed, number);
-    let mut case = opening(&mut r);
-    if case.has(CREDENTIALS) && r.once_in(3) {
-        near_its_buffer(&mut r, &mut case);
-    } else if case.version == 5 && r.once_in(16) {
-        at_their_longest(&mut r, &mut case);
+    let mut case = untold(&mut r);
+    if r.once_in(2) {
+        ask(&mut r, &mut case);
     }
-    let stream = stream(&mut r, &case);
-    let lent = if case.version == 4 { DELIVERY4 } else { CALL5 };
-    case.deliveries = deliveries(&mut r, lent, stream);
     case
+}
+
+// A case that does not ask for the text.
+pub fn plain(seed: u64, number: u64) -> Case {
+    untold(&mut Random::new(seed, number))
+}
+
+fn untold(r: &mut Random) -> Case {
+    let mut case = opening(r);
+    if case.has(CREDENTIALS) && r.once_in(3) {
+        near_its_buffer(r, &mut case);
+    } else if case.version == 5 && r.once_in(16) {
+        at_their_longest(r, &mut case);
+    }
+    let replies = match case.version {
+        4 => reply4(r),
+        _ => replies5(r, &case),
+    };
+    arrives(r, &mut case, replies);
+    case
+}
+
+fn arrives(r: &mut Random, case: &mut Case, replies: Vec<u8>) {
+    let stream = stream(r, replies);
+    let lent = if case.version == 4 { DELIVERY4 } else { CALL5 };
+    case.deliveries = deliveries(r, lent, stream);
+}
+
+// The text too, with a buffer near its length; most replies are made anew, so that more of them open a session.
+fn ask(r: &mut Random, case: &mut Case) {
+    case.flags |= TEXT;
+    if !r.once_in(4) {
+        let replies = bound_replies(r, case);
+        arrives(r, case, replies);
+    }
+    case.text_lent = u16::MAX;
+    let n = model::answer(case).bound.map_or(0, |(_, text)| text.len() as u16);
+    let near = r.one_of(&[n, n, n, n.saturating_sub(1), n.saturating_sub(1), n + 1]);
+    case.text_lent = if r.once_in(3) { r.one_of(&TEXTS) } else { near };
 }
 
 fn opening(r: &mut Random) -> Case {
@@ -42,6 +80,7 @@ fn opening(r: &mut Random) -> Case {
         password: credential(r),
         records: (0..n).map(|_| record(r)).collect(),
         deliveries: vec![],
+        text_lent: 0,
     }
 }
 
@@ -138,11 +177,7 @@ fn at_their_longest(r: &mut Random, case: &mut Case) {
 
 // ---- what the proxy sends
 
-fn stream(r: &mut Random, case: &Case) -> Vec<u8> {
-    let mut stream = match case.version {
-        4 => reply4(r),
-        _ => replies5(r, case),
-    };
+fn stream(r: &mut Random, mut stream: Vec<u8>) -> Vec<u8> {
     if r.once_in(6) {
         stream = r.damaged(stream, &[0, 1, 2, 3, 4, 5, 8, 9, 0x5A, 0x5B, 0x80, 0xFF]);
     }
@@ -211,6 +246,26 @@ fn bound_name(r: &mut Random) -> Vec<u8> {
     };
     let text = &text[..text.len().min(255)];
     [&[text.len() as u8], text].concat()
+}
+
+// Replies as they should be, but for a status now and then, with addresses at the edges of their texts.
+fn bound_replies(r: &mut Random, case: &Case) -> Vec<u8> {
+    let fails = r.once_in(8);
+    let port = r.port().to_be_bytes();
+    if case.version == 4 {
+        return [&[0, if fails { 91 } else { 90 }], &port[..], &r.four()].concat();
+    }
+    let start: &[u8] = if case.has(CREDENTIALS) { &[5, 2, 1, 0] } else { &[5, 0] };
+    let address = match r.below(4) {
+        0 => [&[1], &r.four()[..]].concat(),
+        1 => {
+            let n = if r.once_in(2) { r.one_of(&[1, 2, 254, 255]) } else { 1 + r.below(255) };
+            let name = if r.once_in(2) { r.utf8(n) } else { r.text(n, b"abc.019-:[]") };
+            [&[3, name.len() as u8], &name[..]].concat()
+        }
+        _ => [&[4], &r.six()[..]].concat(),
+    };
+    [start, &[5, u8::from(fails), 0], &address, &port].concat()
 }
 
 // ---- how it arrives

@@ -7,9 +7,11 @@ use std::collections::{BTreeMap, HashSet};
 use std::fs;
 use std::net::Ipv4Addr;
 
+// Those that do not ask for the text. Random cases fill them up, as far as they are small.
 const CASES: usize = 2780;
-// Random cases fill the list up, as far as they are small.
 const SMALL: usize = 500;
+// Random cases that do ask, behind the others.
+const ASKING: usize = 150;
 
 const OPENS4: [u8; 8] = [0, 90, 0, 80, 10, 0, 0, 1];
 const IPV6_REPLY: [u8; 22] = [5, 0, 0, 4, 32, 1, 13, 184, 0, 0, 0, 0, 0, 0, 0, 0, 0, 0, 0, 1, 0, 80];
@@ -40,6 +42,7 @@ fn base(version: u8) -> Case {
         password: vec![],
         records: vec![],
         deliveries: vec![],
+        text_lent: 0,
     }
 }
 
@@ -93,6 +96,12 @@ impl Case {
             self = self.piece(&[*b]);
         }
         self
+    }
+
+    // Asks for the text, with a buffer of this length.
+    fn asks(mut self, lent: u16) -> Case {
+        self.text_lent = lent;
+        self.flag(TEXT)
     }
 }
 
@@ -493,6 +502,246 @@ fn bench(list: &mut List) {
     list.add(base(4).host(b"elevenbytes"));
 }
 
+// ---- the bound address
+
+// The replies that open a case's session, the last with this address, its kind ahead of it, and port.
+fn bound_at(case: &Case, address: &[u8], port: u16) -> Vec<u8> {
+    let port = port.to_be_bytes();
+    match (case.version, case.has(CREDENTIALS)) {
+        (4, _) => [&[0, 90], &port[..], &address[1..]].concat(),
+        (_, false) => [&[5, 0, 5, 0, 0], address, &port].concat(),
+        (_, true) => [&[5, 2, 1, 0, 5, 0, 0], address, &port].concat(),
+    }
+}
+
+fn named(name: &[u8]) -> Vec<u8> {
+    [&[3, name.len() as u8], name].concat()
+}
+
+fn six(groups: [u16; 8]) -> Vec<u8> {
+    [4].into_iter().chain(groups.into_iter().flat_map(u16::to_be_bytes)).collect()
+}
+
+// A case of each kind of session, with each kind of address, whose text has this length.
+fn bound_sessions() -> Vec<(Case, Vec<u8>, u16)> {
+    let addresses = [
+        (vec![1, 192, 0, 2, 7], 8080, 14),
+        (six([0x2001, 0xDB8, 0, 0, 1, 0, 0, 1]), 1080, 24),
+        (named(b"exit.example"), 443, 16),
+    ];
+    let openings =
+        [base(5), base(5).flag(OPTIMISTIC), base(5).credentials(1, 2), base(5).credentials(1, 2).flag(OPTIMISTIC)];
+    let mut all = vec![];
+    for case in openings {
+        for (address, port, n) in &addresses {
+            all.push((case.clone(), bound_at(&case, address, *port), *n));
+        }
+    }
+    // the port first: were it read behind the address, this would be 2.1.192.0:519
+    for case in [base(4), base(4).host(b"1.2.3.4"), base(4).flag(LOCAL_LOOKUP).records("64")] {
+        let replies = bound_at(&case, &[1, 192, 0, 2, 7], 513);
+        all.push((case, replies, 13));
+    }
+    all
+}
+
+// Whole, with bytes behind the reply, byte by byte, cut in two, with noise; the buffer at the text's length and beside.
+fn bound_pieces(list: &mut List) {
+    for (case, replies, n) in bound_sessions() {
+        let whole = case.clone().piece(&replies);
+        for lent in [n, n - 1, n + 1, 0, 2048, 2049, 65535] {
+            list.add(whole.clone().asks(lent));
+        }
+        let behind = [&replies[..], b"SDF"].concat();
+        for flags in [0, END] {
+            list.add(whole.clone().flag(flags).asks(n));
+            list.add(case.clone().piece(&behind).flag(flags).asks(n));
+            list.add(case.clone().each_byte(&behind).flag(flags).asks(n));
+        }
+        list.add(case.clone().piece(&behind).asks(n - 1));
+        let (_, asked) = asked(&case);
+        let late = whole.piece(&replies).piece_lent(asked - 1, b"lost").piece(b"");
+        list.add(late.flag(END).asks(n));
+        let tried = case.piece_lent(asked - 1, &replies).piece(b"").piece_lent(0, b"");
+        list.add(tried.clone().asks(2048));
+        list.add(tried.piece_lent(asked, &replies).asks(n));
+    }
+    for (case, replies, n) in bound_sessions().into_iter().step_by(4) {
+        for at in 1..replies.len() {
+            let (before, later) = replies.split_at(at);
+            list.add(case.clone().piece(before).piece(&[later, b"on"].concat()).asks(n));
+        }
+    }
+}
+
+// No text: waiting, failed, ended, refused, not started.
+fn not_open(list: &mut List) {
+    for (case, replies, _) in bound_sessions() {
+        let last = replies.len() - 1;
+        for lent in [2048, 0] {
+            list.add(case.clone().asks(lent));
+            list.add(case.clone().flag(END).asks(lent));
+            list.add(case.clone().piece(&replies[..last]).asks(lent));
+            list.add(case.clone().piece(&replies[..last]).flag(END).asks(lent));
+            let (start, _) = asked(&case);
+            list.add(case.clone().lent(start - 1).piece(&replies).asks(lent));
+            list.add(case.clone().lent(0).piece(&replies).flag(END).asks(lent));
+        }
+        // the reply's second byte
+        let at = if case.version == 4 {
+            1
+        } else if case.has(CREDENTIALS) {
+            5
+        } else {
+            3
+        };
+        let statuses = if case.version == 4 { [89, 91, 93] } else { [1, 8, 9] };
+        for status in statuses {
+            let mut failing = replies.clone();
+            failing[at] = status;
+            list.add(case.clone().piece(&failing).asks(2048));
+            list.add(case.clone().each_byte(&failing).flag(END).asks(0));
+            list.add(case.clone().piece(&failing).piece(&replies).asks(2048));
+        }
+    }
+    for (case, reply) in [
+        (base(5), &[5, 0xFF][..]),
+        (base(5), &[5, 2]),
+        (base(5), &[4, 0]),
+        (base(5).credentials(1, 1), &[5, 2, 1, 7]),
+        (base(5), &[5, 0, 5, 0, 0, 3, 1, 0xFF, 0, 80]),
+        (base(5), &[5, 0, 5, 0, 0, 3, 0]),
+        (base(5), &[5, 0, 5, 0, 0, 2, 0]),
+        (base(5), &[5, 0, 5, 0, 1]),
+        (base(4), &[4, 90, 0, 80, 1, 2, 3, 4]),
+    ] {
+        list.add(case.clone().piece(reply).asks(2048));
+        list.add(case.piece(reply).flag(END).asks(0));
+    }
+    // each number of preparing
+    let mut no_port = base(5);
+    no_port.flags &= !PORT;
+    for case in [
+        base(5).host(b""),
+        base(5).host(b"a b"),
+        no_port,
+        base(5).credentials(0, 256),
+        base(5).host(&[b'n'; 256]),
+        base(5).flag(LOCAL_LOOKUP),
+        base(4).host(b"[]"),
+        base(4).host(b"::1"),
+        base(4).host(&[b'n'; 1015]),
+        base(4).flag(LOCAL_LOOKUP).records("6"),
+        base(4).host(b"0.0.0.5"),
+    ] {
+        list.add(case.clone().asks(2048));
+        list.add(served(case.flag(END)).asks(0));
+    }
+}
+
+fn bound_six(list: &mut List) {
+    let mut all = vec![
+        [0x2001, 0xDB8, 0, 0, 1, 0, 0, 1],
+        [0, 0, 0, 0, 0, 0, 0, 1],
+        // one digit to four, the first or the last of so many
+        [1, 0xF, 0x10, 0xFF, 0x100, 0xFFF, 0x1000, 0xFFFF],
+        [0xABCD, 0xEF01, 0x2345, 0x6789, 0xABC, 0xDEF, 0xA, 0xF0],
+        [0x1000, 0x200, 0x30, 4, 0x5000, 0x600, 0x70, 8],
+        [0xFFFF; 8],
+        [0x2001, 0xDB8, 0, 1, 1, 1, 1, 1],
+        [0x2001, 0, 0, 1, 0, 0, 0, 1],
+        [0x2001, 0xDB8, 0xFFFF, 0, 0, 0, 0, 0x100],
+        // an IPv4 address inside: mapped, compatible, translated
+        [0, 0, 0, 0, 0, 0xFFFF, 0xC000, 0x207],
+        [0, 0, 0, 0, 0, 0xFFFF, 0, 0],
+        [0, 0, 0, 0, 0, 0xFFFF, 0, 5],
+        [0, 0, 0, 0, 0, 0xFFFF, 0xFFFF, 0xFFFF],
+        [0, 0, 0, 0, 0, 0, 0xC000, 0x207],
+        [0, 0, 0, 0, 0, 0, 1, 0],
+        [0, 0, 0, 0, 0xFFFF, 0, 0xC000, 0x207],
+        [0x64, 0xFF9B, 0, 0, 0, 0, 0xC000, 0x207],
+        [0xFE80, 0, 0, 0, 0, 0x5EFE, 0xC000, 0x207],
+        [0, 0, 0, 0, 0, 0xFFFE, 0xC000, 0x207],
+    ];
+    // every set of zero groups
+    all.extend((0..256).map(|set| std::array::from_fn(|i| if set >> i & 1 == 0 { 0 } else { i as u16 + 1 })));
+    for groups in all {
+        let replies = bound_at(&base(5), &six(groups), 1080);
+        list.add(base(5).host(b"h").piece(&replies).asks(2048));
+    }
+    // the longest text, 47 bytes
+    for lent in [46, 47, 48] {
+        list.add(base(5).host(b"h").piece(&bound_at(&base(5), &six([0xFFFF; 8]), 65535)).asks(lent));
+        list.add(base(5).host(b"h").piece(&bound_at(&base(5), &six([0; 8]), 65535)).asks(lent));
+    }
+    // the shortest, 6 bytes
+    for lent in [5, 6] {
+        list.add(base(5).host(b"h").piece(&bound_at(&base(5), &six([0; 8]), 0)).asks(lent));
+    }
+}
+
+// Numbers at the ends of their digits, over both versions; the longest text has 21 bytes, the shortest 9.
+fn bound_four(list: &mut List) {
+    let addresses =
+        [[0, 0, 0, 0], [0, 0, 0, 5], [9, 10, 99, 100], [1, 2, 3, 4], [127, 0, 0, 1], [199, 200, 249, 250], [255; 4]];
+    for version in [5, 4] {
+        let case = base(version).host(b"h");
+        for address in addresses {
+            for port in [0, 9, 443, 65535] {
+                list.add(case.clone().piece(&bound_at(&case, &[&[1], &address[..]].concat(), port)).asks(2048));
+            }
+        }
+        for (address, port, n) in [([255; 4], 65535, 21), ([0; 4], 0, 9)] {
+            let replies = bound_at(&case, &[&[1], &address[..]].concat(), port);
+            for lent in [n, n - 1] {
+                list.add(case.clone().piece(&replies).asks(lent));
+            }
+        }
+        for port in [1, 10, 80, 99, 100, 255, 256, 257, 999, 1000, 9999, 10000, 10101, 32768, 59999, 60000] {
+            list.add(case.clone().piece(&bound_at(&case, &[1, 10, 0, 0, 1], port)).asks(2048));
+        }
+    }
+}
+
+const NAMES: &str = "x X ab Exit.Example example. 192.0.2.7 2001:db8::1 [::1] [::1]:80 : :: a:80 - \0 a\0b \u{7F} \
+    \u{80} \u{E9} \u{7FF}\u{800} \u{65E5}\u{672C}\u{8A9E}.jp \u{D7FF}\u{E000}\u{FFFF} a\u{1F600}b\u{10FFFF} \u{10000}";
+
+// Names as received, whatever they hold.
+fn bound_names_told(list: &mut List) {
+    let mut names: Vec<Vec<u8>> = NAMES.split(' ').map(Vec::from).collect();
+    names.extend([b" ".to_vec(), b"a b\n".to_vec()]);
+    names.push("\u{1F600}".repeat(63).into());
+    names.push("\u{65E5}".repeat(85).into());
+    for name in names {
+        for case in [base(5).host(b"h"), base(5).host(b"h").credentials(1, 1)] {
+            let replies = bound_at(&case, &named(&name), 80);
+            list.add(case.clone().piece(&replies).asks(2048));
+            list.add(case.piece(&replies).asks(name.len() as u16 + 2));
+        }
+    }
+    for n in [1, 2, 3, 253, 254, 255] {
+        for (port, digits) in [(0, 1), (65535, 5)] {
+            let case = base(5).host(b"h");
+            let replies = bound_at(&case, &named(&vec![b'n'; n]), port);
+            let whole = n as u16 + 1 + digits;
+            for lent in [whole, whole - 1, 0, 2048, 2049] {
+                list.add(case.clone().piece(&replies).asks(lent));
+            }
+            let (before, later) = replies.split_at(replies.len() - 1);
+            list.add(case.clone().piece(before).piece(&[later, b"on"].concat()).asks(whole));
+            list.add(case.piece(&[&replies[..], &vec![0xAB; 600]].concat()).asks(whole));
+        }
+    }
+    // with the longest requests
+    for flags in [0, OPTIMISTIC] {
+        let case = base(5).host(&[b'r'; 255]).credentials(255, 255).flag(flags).lent(778);
+        let replies = bound_at(&case, &named(&[b'n'; 255]), 65535);
+        for lent in [260, 261] {
+            list.add(case.clone().piece_lent(778, &replies).asks(lent));
+        }
+    }
+}
+
 fn cases() -> Vec<Case> {
     let mut list = List::default();
     let parts = [
@@ -519,7 +768,15 @@ fn cases() -> Vec<Case> {
         part(&mut list);
     }
     let fill = CASES.saturating_sub(list.cases.len());
-    for case in (0..).map(|n| generate::case(1, n)).filter(|case| case.bytes().len() < SMALL).take(fill) {
+    let small = |case: &Case| case.bytes().len() < SMALL;
+    for case in (0..).map(|n| generate::plain(1, n)).filter(small).take(fill) {
+        list.add(case);
+    }
+    for part in [bound_pieces, not_open, bound_six, bound_four, bound_names_told] {
+        part(&mut list);
+    }
+    let asking = |case: &Case| small(case) && case.has(TEXT);
+    for case in (0..).map(|n| generate::case(1, n)).filter(asking).take(ASKING) {
         list.add(case);
     }
     list.cases
@@ -530,6 +787,7 @@ pub fn write(dir: &str) -> Result<(), String> {
     let (mut stdin, mut stdout) = (vec![], String::new());
     let mut held: BTreeMap<String, usize> = BTreeMap::new();
     let (mut refused, mut answered) = (0, 0);
+    let mut texts: BTreeMap<u8, usize> = BTreeMap::new();
     let cases = cases();
     for case in &cases {
         let line = expect(case)
@@ -540,6 +798,9 @@ pub fn write(dir: &str) -> Result<(), String> {
         *held.entry(format!("{outcome} {}", line.status)).or_default() += 1;
         refused += usize::from(line.open == 1);
         answered += usize::from(line.answers.contains(&22) || line.end == Some(22));
+        if let Some((answer, _)) = line.bound {
+            *texts.entry(answer).or_default() += 1;
+        }
     }
     // a case that the program refuses, and what it must not reach
     stdout += &format!("bad case at {}\n", stdin.len());
@@ -550,6 +811,8 @@ pub fn write(dir: &str) -> Result<(), String> {
     let overflows = cases.iter().filter(|case| rust::overflows(case)).count();
     println!("{} cases, {} bytes, answers {} bytes", cases.len(), stdin.len(), stdout.len());
     println!("{refused} whose start is refused with 1, {answered} that answer 22 behind it");
+    let answers = texts.iter().map(|(answer, n)| format!("{answer}: {n}")).collect::<Vec<_>>().join(", ");
+    println!("{} that ask for the text, its answers {answers}", texts.values().sum::<usize>());
     println!("{overflows} that the Rust ends with WouldOverflow; outcome and status:");
     println!("{}", held.iter().map(|(what, n)| format!("{what}: {n}")).collect::<Vec<_>>().join(", "));
     Ok(())

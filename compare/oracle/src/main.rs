@@ -19,6 +19,7 @@ mod rust;
 mod shrink;
 mod speed;
 mod standin;
+mod text;
 
 // The original names hyper's `rt`; ours stands in for it.
 extern crate self as hyper;
@@ -26,6 +27,7 @@ extern crate self as hyper;
 const USAGE: &str = "\
 oracle self SEED COUNT                       the original against the model
 oracle random SEED COUNT REPLAY [--plant N]  and the program REPLAY against both
+oracle text SEED COUNT [REPLAY [--plant N]]  the bound address's text, the model's and REPLAY's, against Rust's Display
 oracle list DIR                              writes the kept list and its answers, DIR/stdin and DIR/stdout
 oracle one                                   what the original says of one case on standard input
 oracle call VERSION URI                      what its wrapper sends for a URI
@@ -63,6 +65,11 @@ fn run(args: &[&str]) -> Result<bool, String> {
         }
         ["random", seed, count, replay, "--plant", n] => {
             Ok(compare::random(number(seed)?, number(count)?, Some(replay.into()), Some(number(n)?)))
+        }
+        ["text", seed, count] => Ok(text::random(number(seed)?, number(count)?, None, None)),
+        ["text", seed, count, replay] => Ok(text::random(number(seed)?, number(count)?, Some(replay), None)),
+        ["text", seed, count, replay, "--plant", n] => {
+            Ok(text::random(number(seed)?, number(count)?, Some(replay), Some(number(n)?)))
         }
         ["list", dir] => list::write(dir).map(|()| true),
         ["one"] => one(),

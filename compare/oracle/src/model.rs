@@ -1,9 +1,10 @@
-//! Document 01 with requests F-4, F-7 and F-8 in plain Rust: what a case must answer, field by field. Written from
-//! their words, not from the original.
+//! Document 01 with requests F-1, F-4, F-7 and F-8 in plain Rust: what a case must answer, field by field. Written
+//! from their words, not from the original.
 use crate::case::*;
 use std::net::IpAddr;
 
-// The line of `replay`. No outcome is waiting, 0 is open, any other number is the failure's.
+// The line of `replay`. No outcome is waiting, 0 is open, any other number is the failure's. The bound address's
+// answer and text, which is empty if refused, stand in it if they are asked for.
 #[derive(Clone, PartialEq)]
 pub struct Line {
     pub rests: Vec<u8>,
@@ -14,6 +15,7 @@ pub struct Line {
     pub open: u8,
     pub answers: Vec<u8>,
     pub end: Option<u8>,
+    pub bound: Option<(u8, Vec<u8>)>,
 }
 
 impl Line {
@@ -23,7 +25,8 @@ impl Line {
         let answers = if answers.is_empty() { "-".into() } else { answers };
         let end = self.end.map_or("-".into(), |n| n.to_string());
         let (rests, sent) = (hex(&self.rests), hex(&self.sent));
-        format!("{rests} {sent} {outcome} {} {} {} {answers} {end}", self.status, self.total, self.open)
+        let bound = self.bound.as_ref().map_or(String::new(), |(answer, text)| format!(" {answer} {}", hex(text)));
+        format!("{rests} {sent} {outcome} {} {} {} {answers} {end}{bound}", self.status, self.total, self.open)
     }
 }
 
@@ -209,6 +212,59 @@ fn decide_v4(reply: &[u8]) -> Option<Decided> {
     })
 }
 
+// ---- the bound address and its text
+
+enum Bound {
+    Four([u8; 4]),
+    Six([u8; 16]),
+    Name(Vec<u8>),
+}
+
+// Of a good reply, whole: its address and port, if it is of a kind that has them.
+fn bound(reply: &Reply, bytes: &[u8]) -> Option<(Bound, u16)> {
+    let (address, port) = match reply {
+        Reply::Method(_) | Reply::Credential => return None,
+        Reply::V4 => (Bound::Four(bytes[4..].try_into().ok()?), &bytes[2..4]),
+        Reply::Connect => {
+            let (start, port) = bytes.split_at(bytes.len() - 2);
+            let address = match start[3] {
+                1 => Bound::Four(start[4..].try_into().ok()?),
+                4 => Bound::Six(start[4..].try_into().ok()?),
+                _ => Bound::Name(start[5..].to_vec()),
+            };
+            (address, port)
+        }
+    };
+    Some((address, u16::from_be_bytes(port.try_into().ok()?)))
+}
+
+// RFC 5952 section 4, in hexadecimal groups only.
+fn six_text(address: &[u8; 16]) -> String {
+    let groups: Vec<u16> = address.chunks(2).map(|two| u16::from_be_bytes([two[0], two[1]])).collect();
+    let joined = |some: &[u16]| some.iter().map(|group| format!("{group:x}")).collect::<Vec<_>>().join(":");
+    let zeros = |at: usize| groups[at..].iter().take_while(|group| **group == 0).count();
+    let (mut at, mut run) = (0, 0);
+    for place in 0..8 {
+        if zeros(place) > run {
+            (at, run) = (place, zeros(place));
+        }
+    }
+    match run {
+        0 | 1 => joined(&groups),
+        _ => format!("{}::{}", joined(&groups[..at]), joined(&groups[at + run..])),
+    }
+}
+
+fn bound_text((address, port): &(Bound, u16)) -> Vec<u8> {
+    let mut text = match address {
+        Bound::Four([a, b, c, d]) => format!("{a}.{b}.{c}.{d}").into_bytes(),
+        Bound::Six(address) => format!("[{}]", six_text(address)).into_bytes(),
+        Bound::Name(name) => name.clone(),
+    };
+    text.extend(format!(":{port}").into_bytes());
+    text
+}
+
 // ---- the plain machine
 
 enum Step {
@@ -238,10 +294,11 @@ struct State {
     outcome: Option<u8>,
     status: u8,
     used: usize,
+    bound: Option<(Bound, u16)>,
 }
 
 fn machine(steps: &[Step], list: &[u8]) -> State {
-    let mut now = State { sent: vec![], outcome: None, status: 0, used: 0 };
+    let mut now = State { sent: vec![], outcome: None, status: 0, used: 0, bound: None };
     for step in steps {
         match step {
             Step::Send(request) => now.sent.extend(request),
@@ -250,11 +307,13 @@ fn machine(steps: &[Step], list: &[u8]) -> State {
                     now.used = list.len();
                     return now;
                 };
+                let read = &list[now.used..now.used + count];
                 now.used += count;
                 if number != 0 {
                     (now.outcome, now.status) = (Some(number), status);
                     return now;
                 }
+                now.bound = bound(reply, read);
             }
         }
     }
@@ -262,7 +321,17 @@ fn machine(steps: &[Step], list: &[u8]) -> State {
     now
 }
 
-// ---- Delivery, End of stream, Tunnel
+// ---- Delivery, End of stream, Tunnel, Text
+
+fn text(now: &State, lent: usize) -> (u8, Vec<u8>) {
+    match &now.bound {
+        Some(bound) if now.outcome == Some(0) => {
+            let text = bound_text(bound);
+            if lent < text.len() { (18, vec![]) } else { (0, text) }
+        }
+        _ => (17, vec![]),
+    }
+}
 
 pub fn answer(case: &Case) -> Line {
     let open = opening(case);
@@ -300,5 +369,6 @@ pub fn answer(case: &Case) -> Line {
     if end == Some(0) {
         now.outcome = Some(9);
     }
-    Line { rests, sent: now.sent, outcome: now.outcome, status: now.status, total: now.used, open, answers, end }
+    let bound = case.has(TEXT).then(|| text(&now, lent(case.text_lent)));
+    Line { rests, sent: now.sent, outcome: now.outcome, status: now.status, total: now.used, open, answers, end, bound }
 }

@@ -5,6 +5,7 @@ use crate::case::*;
 fn size(case: &Case) -> usize {
     let plain = |lent: u16| usize::from(lent != 2048);
     let values = plain(case.lent)
+        + if case.has(TEXT) { plain(case.text_lent) } else { 0 }
         + usize::from(case.port != 443)
         + case.flags.count_ones() as usize
         + case.records.iter().flat_map(|(_, address)| address).filter(|b| **b != 0).count()
@@ -102,6 +103,8 @@ fn fine(case: &Case) -> Vec<Case> {
     for flag in [CREDENTIALS, LOCAL_LOOKUP, OPTIMISTIC, PORT, END] {
         all.add(|c| c.flags &= !flag);
     }
+    all.add(|c| (c.flags, c.text_lent) = (c.flags & !TEXT, 0));
+    all.add(|c| c.text_lent = 2048);
     all.add(|c| c.port = 443);
     all.add(|c| c.lent = 2048);
     (0..case.records.len()).for_each(|i| all.add(|c| c.records[i].1 = [0; 16]));

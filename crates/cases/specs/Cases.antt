@@ -1,4 +1,4 @@
--- A case's bytes: what stands before its deliveries, and at the start of a delivery.
+-- A case's bytes: what stands before its deliveries, at the start of a delivery, and behind them.
 use Prim.Native.Nat.{ℕ, zero, suc, _+_, _*_, _/_, _%_, _≤_}
 use mathlib.Core.Path.{_≡_}
 use mathlib.Core.Bool.{Bool, true, false, cond, _&&_, _||_}
@@ -81,6 +81,10 @@ portOf flags number = cond (flag flags 8) (Given number) Missing
 abbrev pub ends : ℕ → Bool
 ends flags = flag flags 16
 
+-- the text is asked for after all 32
+abbrev pub asksText : ℕ → Bool
+asksText flags = flag flags 32
+
 -- ---- the records
 
 abbrev pub familyOf : ℕ → Family
@@ -110,3 +114,12 @@ roomOf version = cond (eqb version 4) 262 778
 -- what a delivery leaves of its piece; one that lends less output than it asks has no rest
 abbrev pub restOf : ℕ → ℕ → List ℕ → ℕ → List ℕ
 restOf room lent piece used = cond (ltb lent room) [] (drop used piece)
+
+-- ---- behind the deliveries
+
+-- the length of the buffer lent to the text, if that is asked for
+abbrev pub behindSize : ℕ → ℕ
+behindSize flags = cond (asksText flags) 2 0
+
+abbrev pub textLent : ℕ → List ℕ → ℕ
+textLent flags s = cond (asksText flags) (lentOf (numberAt s 0)) 0

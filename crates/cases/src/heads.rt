@@ -1,9 +1,9 @@
-// What stands in a case before its deliveries, and at the start of a delivery.
+// What stands in a case before its deliveries, at the start of a delivery, and behind them.
 ghost use mathlib.Core.Path.{_≡_};
 ghost use Prim.Native.Nat.{_+_, _*_, _≤_, _<_};
 ghost use mathlib.Core.Bool.{true};
 ghost use lib.ListN.{length, getD, take, drop};
-ghost use Rattle.cases.specs.Cases.{numberAt, headOf, Ordered, isVersion, isFamily, knownFamilies, isGood, flag, configOf, portOf, ends, familyOf, recordAt, recordsAt, lentOf, deliverySize, roomOf};
+ghost use Rattle.cases.specs.Cases.{numberAt, headOf, Ordered, isVersion, isFamily, knownFamilies, isGood, flag, configOf, portOf, ends, familyOf, recordAt, recordsAt, lentOf, deliverySize, roomOf, asksText, behindSize, textLent};
 use protocol::Family;
 use protocol::Port;
 use protocol::Record;
@@ -134,6 +134,13 @@ pub fn ends(flags: u8) -> bool
     has(flags, 16)
 }
 
+// Whether the text is asked for after all.
+pub fn asks_text(flags: u8) -> bool
+    ensures { λ r. ⌜ r ≡ asksText flags ⌝ }
+{
+    has(flags, 32)
+}
+
 fn family_of(b: u8) -> Family
     ensures { λ r. ⌜ r ≡ familyOf b ⌝ }
 {
@@ -206,4 +213,24 @@ pub fn room_of(version: u8) -> usize
     ensures { λ r. ⌜ r ≡ roomOf version ⌝ }
 {
     if version == 4 { 262 } else { 778 }
+}
+
+// How many bytes stand behind the deliveries: those of a number, if the text is asked for.
+pub fn behind_size(flags: u8) -> usize
+    ensures { λ r. ⌜ r ≡ behindSize flags ⌝ }
+{
+    if asks_text(flags) {
+        return 2;
+    }
+    0
+}
+
+// How much of a buffer is lent to the text, by what stands behind the deliveries.
+pub fn text_lent(flags: u8, s: &[u8]) -> usize
+    ensures { λ r. ⌜ (r ≡ textLent flags (now (s .entry))) × (r ≤ 2048) ⌝ }
+{
+    if asks_text(flags) {
+        return lent(number_at(s, 0));
+    }
+    0
 }

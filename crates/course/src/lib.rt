@@ -1,4 +1,4 @@
-// A session from its preparing and start over its deliveries to its end.
+// A session from its preparing and start over its deliveries to its end and its text.
 ghost use mathlib.Core.Path.{_≡_};
 ghost use Prim.Native.Nat.{_-_, _≤_};
 ghost use mathlib.Core.Bool.{cond};
@@ -197,11 +197,64 @@ fn last_of(session: Session, ends: bool) -> Last
     }
 }
 
-// The line of a whole case of so many deliveries.
-pub fn finish(
+// How a case closes: what its opening answered, its flags, how many deliveries it had, and how much of a buffer is lent to its text.
+pub struct Close {
+    pub opened: u8,
+    pub flags: u8,
+    pub count: usize,
+    pub lent: usize,
+}
+
+// What the text of a session answers and how many bytes it has, if it is asked for.
+struct Bound {
+    asked: bool,
+    answer: u8,
+    len: usize,
+}
+
+fn bound_of(session: Session, asks: bool, out: &mut [u8]) -> Bound
+    ensures { λ r. ⌜ (r .asked ≡ asks) × (r .len ≤ length (now (out .exit))) ⌝ }
+{
+    if !asks {
+        return Bound {
+            asked: false,
+            answer: 0,
+            len: 0,
+        };
+    }
+    let written = session.bound_text(out);
+    let answer = written.answer;
+    Bound {
+        asked: true,
+        answer: report::answer_number(answer),
+        len: written.len,
+    }
+}
+
+// The last session's text with all of a buffer, and the line's end.
+fn put_bound(session: Session, asks: bool, out: &mut [u8], text: &mut [u8], at: usize) -> usize
+    requires { ⌜ (length (now out) ≤ 2048) × ((at ≤ length (now text)) × (300000 ≤ length (now text))) ⌝ }
+    ensures { λ r. ⌜ r ≤ length (now (text .entry)) ⌝ }
+{
+    let bound = bound_of(session, asks, out);
+    let len = bound.len;
+    lines::close_line(bound.asked, bound.answer, &out[..len], text, at)
+}
+
+// What closes the line of a case, with its text's buffer lent as far as the case says.
+fn close_course(session: Session, asks: bool, lent: usize, text: &mut [u8], at: usize) -> usize
+    requires { ⌜ (lent ≤ 2048) × ((at ≤ length (now text)) × (300000 ≤ length (now text))) ⌝ }
+    ensures { λ r. ⌜ r ≤ length (now (text .entry)) ⌝ }
+{
+    let mut out = output();
+    put_bound(session, asks, &mut out[..lent], text, at)
+}
+
+// The line of a case of so many deliveries, up to what closes it.
+fn put_course(
     course: Course,
+    last: Last,
     opened: u8,
-    ends: bool,
     count: usize,
     kept: &[u8],
     text: &mut [u8],
@@ -209,9 +262,7 @@ pub fn finish(
     requires { ⌜ (Keeps course (length (now text))) × ((count ≤ 65535) × ((73727 ≤ length (now kept)) × (300000 ≤ length (now text)))) ⌝ }
     ensures { λ r. ⌜ r ≤ length (now (text .entry)) ⌝ }
 {
-    let session = course.session;
     let line = course.line;
-    let last = last_of(session, ends);
     let end = last.session;
     let outcome = end.outcome();
     let results = Results {
@@ -225,4 +276,16 @@ pub fn finish(
     let first = SENT;
     let stop = SENT + count;
     lines::put_line(line, results, &kept[first..stop], &kept[..sent], text)
+}
+
+// The line of a whole case.
+pub fn finish(course: Course, close: Close, kept: &[u8], text: &mut [u8]) -> usize
+    requires { ⌜ (Keeps course (length (now text))) × ((close .count ≤ 65535) × ((close .lent ≤ 2048) × ((73727 ≤ length (now kept)) × (300000 ≤ length (now text))))) ⌝ }
+    ensures { λ r. ⌜ r ≤ length (now (text .entry)) ⌝ }
+{
+    let session = course.session;
+    let last = last_of(session, heads::ends(close.flags));
+    let end = last.session;
+    let at = put_course(course, last, close.opened, close.count, kept, text);
+    close_course(end, heads::asks_text(close.flags), close.lent, text, at)
 }

@@ -34,6 +34,8 @@ fn numbers_of(error: SocksError) -> Numbers
         SocksError::Failed => alone(14),
         SocksError::Command(status) => Numbers { number: 15, status },
         SocksError::Settled => alone(16),
+        SocksError::NotOpen => alone(17),
+        SocksError::ShortText => alone(18),
         SocksError::OutOfOrder => alone(22),
         SocksError::AnnouncesName => alone(23),
     }

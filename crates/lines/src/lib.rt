@@ -9,6 +9,7 @@ use libc::STDOUT_FILENO;
 use numerals::put_hex;
 use report::Results;
 use report::put_answers;
+use report::put_close;
 use report::put_results;
 use report::put_wrong;
 
@@ -115,7 +116,7 @@ pub fn put_notice(line: Line, what: &[u8], offset: u64, text: &mut [u8]) -> usiz
     put_wrong(what, offset, text, at)
 }
 
-// The line of a whole case, behind its rests.
+// The line of a whole case, behind its rests, up to what closes it.
 pub fn put_line(line: Line, results: Results, answers: &[u8], sent: &[u8], text: &mut [u8]) -> usize
     requires { ⌜ (Within line (length (now text))) × ((length (now answers) ≤ 65535) × ((length (now sent) ≤ 8192) × (300000 ≤ length (now text)))) ⌝ }
     ensures { λ r. ⌜ r ≤ length (now (text .entry)) ⌝ }
@@ -124,4 +125,13 @@ pub fn put_line(line: Line, results: Results, answers: &[u8], sent: &[u8], text:
     let at = room(text, from, 2 * sent.len() + 4 * answers.len() + 200);
     let next = put_results(results, sent, text, at);
     put_answers(answers, results.ended, results.answer, text, next)
+}
+
+// What closes a line: a text's answer and bytes, if that was asked for, and the line's end.
+pub fn close_line(asked: bool, answer: u8, bytes: &[u8], text: &mut [u8], at: usize) -> usize
+    requires { ⌜ (at ≤ length (now text)) × ((length (now bytes) ≤ 2048) × (8192 ≤ length (now text))) ⌝ }
+    ensures { λ r. ⌜ r ≤ length (now (text .entry)) ⌝ }
+{
+    let from = room(text, at, 2 * bytes.len() + 30);
+    put_close(asked, answer, bytes, text, from)
 }

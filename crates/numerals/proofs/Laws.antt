@@ -1,7 +1,8 @@
--- What is put behind what was put, hexadecimal byte by byte, and decimal digit by digit.
+-- What is put behind what was put, hexadecimal byte by byte, and a number digit by digit.
 use Prim.Native.Nat.{ℕ, zero, suc, _+_, _/_, _%_, _^_, _≤_, _<_}
 use native.Mathlib.Omega.{arith}
 use native.Mathlib.Numerals.{add-one}
+use native.Mathlib.Nat.{one-mul, pow-zero, pow-suc, pow-le-pow-left, div-lt-iff-lt-mul}
 use mathlib.Core.Path.{_≡_, refl, ap, _∙_}
 use mathlib.Core.Bool.{Bool, true, false, cond}
 use mathlib.Core.List.{List, [], _∷_, _++_, append-assoc, append-nil}
@@ -9,7 +10,7 @@ use lib.Dec.{ltb}
 use lib.ListN.{length, getD, take, drop, set, length-set, length-append}
 use lib.Seq.{take-suc, take-suc-set, drop-drop, drop-set-lt}
 use borrow.Author.Tests.{lt-ltb, le-ltb}
-use Rattle.numerals.specs.Digits.{glyph, hexOf, decimalFrom, decimalOf}
+use Rattle.numerals.specs.Digits.{glyph, hexOf, digitsIn, digitsOf}
 use Rattle.numerals.specs.Added.{Adds}
 
 -- nothing, one byte, and more behind what was put
@@ -55,36 +56,47 @@ pub digits : {o o₁ : List ℕ} {at end : ℕ} (s : List ℕ) (i d e : ℕ) →
 unfolding hexOf
 digits {o₁ = o₁} {end = end} s i d e v h l p q = rw (add-one i, take-suc s i 0 l, hex-append, ← p, ← q) (then v (two o₁ end d e h))
 
--- ---- decimal
+-- ---- digits in a base
+
+-- a number without its last digit is held by one digit fewer
+fewer : (base k n : ℕ) → 0 < base → n < base ^ suc k → n / base < base ^ k
+fewer base k n p h = div-lt-iff-lt-mul {k = base} p .1 (rw (pow-suc base k) at h)
+
+single : (base n : ℕ) → n < base ^ 1 → n < base
+single base n h = rw (pow-suc base 0, pow-zero base, one-mul base) at h
 
 -- a number that so many digits hold has no more
-enough : (j n : ℕ) → n < 10 ^ suc j → decimalFrom (suc j) n ≡ decimalFrom (suc (suc j)) n
-unfolding decimalFrom
-enough zero n h = rw (lt-ltb n 10 (omega arith))
-enough (suc j) n h = rw (enough j (n / 10) (omega arith))
+enough : (base j n : ℕ) → 0 < base → n < base ^ suc j → digitsIn base (suc j) n ≡ digitsIn base (suc (suc j)) n
+unfolding digitsIn
+enough base zero n p h = rw (lt-ltb n base (single base n h))
+enough base (suc j) n p h = rw (enough base j (n / base) p (fewer base (suc j) n p h))
 
-pub one-digit : (n : ℕ) → n < 10 → decimalOf n ≡ glyph n ∷ []
-unfolding decimalOf decimalFrom
-one-digit n h = rw (lt-ltb n 10 h)
+pub one-digit : (base n : ℕ) → n < base → digitsOf base n ≡ glyph n ∷ []
+unfolding digitsOf digitsIn
+one-digit base n h = rw (lt-ltb n base h)
 
-pub last-digit : (n : ℕ) → n < 2 ^ 64 → 10 ≤ n → decimalOf n ≡ decimalOf (n / 10) ++ (glyph (n % 10) ∷ [])
-unfolding decimalOf decimalFrom
-last-digit n h l = rw (le-ltb n 10 l) (ap (λ (d : List ℕ). d ++ (glyph (n % 10) ∷ [])) (enough 18 (n / 10) (omega arith)))
+module _ (base n : ℕ) (b : 10 ≤ base) (h : n < 2 ^ 64) (l : base ≤ n) where
+  pub last-digit : digitsOf base n ≡ digitsOf base (n / base) ++ (glyph (n % base) ∷ [])
+  unfolding digitsOf digitsIn
+  last-digit =
+      let p : 10 ^ 20 ≤ base ^ 20 = pow-le-pow-left b 20 in
+      let q : n < base ^ 20 = omega arith in
+      rw (le-ltb n base l) (ap (λ (d : List ℕ). d ++ (glyph (n % base) ∷ [])) (enough base 18 (n / base) (omega arith) (fewer base 19 n (omega arith) q)))
 
-pub one-more : (n : ℕ) → n < 2 ^ 64 → 10 ≤ n → length (decimalOf n) ≡ length (decimalOf (n / 10)) + 1
-one-more n h l = rw (last-digit n h l) (length-append (decimalOf (n / 10)) (glyph (n % 10) ∷ []))
+  pub one-more : length (digitsOf base n) ≡ length (digitsOf base (n / base)) + 1
+  one-more = rw last-digit (length-append (digitsOf base (n / base)) (glyph (n % base) ∷ []))
 
-few-from : (k j n : ℕ) → n < 10 ^ suc j → length (decimalFrom k n) ≤ suc j
-unfolding decimalFrom
-few-from zero j n h = omega arith
-few-from (suc k) zero n h = rw (lt-ltb n 10 (omega arith)) (omega arith)
-few-from (suc k) (suc j) n h = go (ltb n 10) (few-from k j (n / 10) (omega arith))
+few-from : (base k j n : ℕ) → 0 < base → n < base ^ suc j → length (digitsIn base k n) ≤ suc j
+unfolding digitsIn
+few-from base zero j n p h = omega arith
+few-from base (suc k) zero n p h = rw (lt-ltb n base (single base n h)) (omega arith)
+few-from base (suc k) (suc j) n p h = go (ltb n base) (few-from base k j (n / base) p (fewer base (suc j) n p h))
   where
-    go : (t : Bool) → length (decimalFrom k (n / 10)) ≤ suc j → length (cond t (glyph n ∷ []) (decimalFrom k (n / 10) ++ (glyph (n % 10) ∷ []))) ≤ suc (suc j)
+    go : (t : Bool) → length (digitsIn base k (n / base)) ≤ suc j → length (cond t (glyph n ∷ []) (digitsIn base k (n / base) ++ (glyph (n % base) ∷ []))) ≤ suc (suc j)
     go true e = omega arith
     go false e = simp length-append (omega arith)
 
--- a number below a power of ten has no more digits
-pub few : (j n : ℕ) → n < 10 ^ suc j → length (decimalOf n) ≤ suc j
-unfolding decimalOf
-few j n h = few-from 20 j n h
+-- a number below a power of the base has no more digits
+pub few : (base j n : ℕ) → 0 < base → n < base ^ suc j → length (digitsOf base n) ≤ suc j
+unfolding digitsOf
+few base j n p h = few-from base 20 j n p h

@@ -13,11 +13,14 @@ unfoldable pub hexOf : List ℕ → List ℕ
 hexOf [] = []
 hexOf (b ∷ s) = glyph (b / 16) ∷ glyph (b % 16) ∷ hexOf s
 
--- at most so many digits, with no zero in front
-unfoldable pub decimalFrom : ℕ → ℕ → List ℕ
-decimalFrom zero n = []
-decimalFrom (suc k) n = cond (ltb n 10) (glyph n ∷ []) (decimalFrom k (n / 10) ++ (glyph (n % 10) ∷ []))
+-- at most so many digits in a base, with no zero in front
+unfoldable pub digitsIn : ℕ → ℕ → ℕ → List ℕ
+digitsIn base zero n = []
+digitsIn base (suc k) n = cond (ltb n base) (glyph n ∷ []) (digitsIn base k (n / base) ++ (glyph (n % base) ∷ []))
 
--- 20 digits hold every number of 64 bits
-unfoldable pub decimalOf : ℕ → List ℕ
-decimalOf n = decimalFrom 20 n
+-- 20 digits hold every number of 64 bits in base 10 or above
+unfoldable pub digitsOf : ℕ → ℕ → List ℕ
+digitsOf base n = digitsIn base 20 n
+
+abbrev pub decimalOf : ℕ → List ℕ
+decimalOf n = digitsOf 10 n

@@ -3,7 +3,7 @@ ghost use mathlib.Core.Path.{_≡_};
 ghost use Prim.Native.Nat.{_+_, _*_, _≤_, _<_};
 ghost use mathlib.Core.List.{_∷_, []};
 ghost use lib.ListN.{length};
-ghost use Rattle.numerals.specs.Digits.{glyph, hexOf, decimalOf};
+ghost use Rattle.numerals.specs.Digits.{glyph, hexOf, digitsOf, decimalOf};
 ghost use Rattle.numerals.specs.Added.{Adds};
 
 pub mod read;
@@ -42,14 +42,21 @@ fn put_digit(d: u8, out: &mut [u8], at: usize) -> usize
     at + 1
 }
 
-// The fewest digits. The last one goes behind those of the number without it.
+// The fewest digits of a number in a base. The last one goes behind those of the number without it.
+pub fn put_digits(n: u64, base: u64, out: &mut [u8], at: usize) -> usize
+    requires { ⌜ (10 ≤ base) × ((base ≤ 16) × (at + length (digitsOf base n) ≤ length (now out))) ⌝ }
+    ensures { λ r. ⌜ Adds (now (out .entry)) at (digitsOf base n) r (now (out .exit)) ⌝ }
+{
+    if n < base {
+        return put_digit(n as u8, out, at);
+    }
+    let end = put_digits(n / base, base, out, at);
+    put_digit((n % base) as u8, out, end)
+}
+
 pub fn put_decimal(n: u64, out: &mut [u8], at: usize) -> usize
     requires { ⌜ at + length (decimalOf n) ≤ length (now out) ⌝ }
     ensures { λ r. ⌜ Adds (now (out .entry)) at (decimalOf n) r (now (out .exit)) ⌝ }
 {
-    if n < 10 {
-        return put_digit(n as u8, out, at);
-    }
-    let end = put_decimal(n / 10, out, at);
-    put_digit((n % 10) as u8, out, end)
+    put_digits(n, 10, out, at)
 }

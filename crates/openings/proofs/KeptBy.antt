@@ -5,16 +5,17 @@ use native.Mathlib.Omega.{arith}
 use mathlib.Core.Path.{_≡_, refl, ap, sym, _∙_, subst}
 use mathlib.Core.Bool.{Bool, false}
 use mathlib.Core.List.{List, [], _++_, append-assoc, append-nil}
-use lib.ListN.{length, take, drop, replicate, length-append, length-replicate, replicate-append-replicate}
+use lib.ListN.{length, take, drop, replicate, length-append, length-replicate}
 use lib.Seq.{take-at, drop-at}
 use Rattle.protocol.specs.declared.AuthMethod.the-variants.{NoAuth, UserPass}
+use Rattle.protocol.specs.Bytes.{padded}
 use Rattle.protocol.specs.Requests.{negotiationReq, authenticationReq, proxyReq, request}
 use Rattle.protocol.specs.Opening.{Opening, v5, v4, noAuth, userPass, Limits}
 use Rattle.protocol.specs.Client as client
 use Rattle.sending.specs.Parts.{part, negotiationOf, authenticationOf, proxyOf, requestsOf}
-use Rattle.wire.specs.Written.{overwrite, Wrote}
-use Rattle.wire.proofs.Laws.{then}
-use Rattle.session.specs.Calls.{padded, keptWith, keptBy}
+use Rattle.wire.specs.Written.{Wrote}
+use Rattle.wire.proofs.Laws.{then, zeros-under}
+use Rattle.session.specs.Calls.{keptWith, keptBy}
 use Rattle.openings.specs.Kept.{Parts}
 
 -- ---- the parts
@@ -66,20 +67,8 @@ kept-by (v4 d port) l = refl
 
 -- ---- what the code writes
 
-drop-zeros : (n m : ℕ) → n ≤ m → drop {A = ℕ} n (replicate m 0) ≡ replicate (m - n) 0
-drop-zeros n m h =
-    let z : m ≡ n + (m - n) = omega arith in
-    ap (λ (k : ℕ). drop {A = ℕ} n (replicate k 0)) z ∙ ap (drop n) (sym (replicate-append-replicate {A = ℕ} n (m - n) 0)) ∙ drop-at (replicate n 0) (replicate (m - n) 0) n (length-replicate {A = ℕ} n 0)
-
 pub zeros-size : {bs : List ℕ} → bs ≡ replicate 1024 0 → length bs ≡ 1024
 zeros-size z = ap length z ∙ length-replicate {A = ℕ} 1024 0
-
--- bytes written at the start of zeros
-zeros-under : (m : ℕ) {bs out′ : List ℕ} {next : ℕ} → Wrote (replicate m 0) 0 bs next out′ → out′ ≡ padded m bs
-unfolding overwrite
-zeros-under m {bs} w =
-    let h : length bs ≤ m = omega (arith, w .inside, length-replicate {A = ℕ} m 0) in
-    w .bytes ∙ ap (λ (k : ℕ). bs ++ drop k (replicate m 0)) (zero-add (length bs)) ∙ ap (λ (t : List ℕ). bs ++ t) (drop-zeros (length bs) m h)
 
 module _ (o : Bool) {zs q : List ℕ} (z : zs ≡ replicate 1024 0) where
   -- three requests, each behind the one before

@@ -10,6 +10,7 @@ ghost use Rattle.sending.specs.declared.Stage.the-variants as Stage;
 use addresses::AddressText;
 use protocol::AddressKind;
 use protocol::Answer;
+use protocol::Bound;
 use protocol::Family;
 use protocol::Port;
 use protocol::Record;
@@ -101,6 +102,10 @@ pub fn prepared(begun: Begun, bytes: [u8; 1024]) -> Prepared
             started: false,
             held: 0,
             hold: hold,
+            bound: Bound {
+                kind: AddressKind::Ipv4,
+                port: 0,
+            },
             requests: Requests {
                 lengths: lengths,
                 bytes: bytes,

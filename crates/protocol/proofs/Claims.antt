@@ -5,6 +5,7 @@ use mathlib.Core.Path.{_≡_, refl, ap, sym, _∙_}
 use mathlib.Core.Logic.{_⊎_, inl, inr}
 use mathlib.Core.List.{List, [], _∷_, _++_}
 use lib.ListN.{length}
+use Rattle.protocol.specs.Bound.{Endpoint}
 use Rattle.protocol.specs.Opening.{Opening, Condition, None, First, Answers}
 use Rattle.protocol.specs.Grammar.{Sequence, JustOne}
 use Rattle.talk.specs.Lawful.{Begins}
@@ -76,5 +77,5 @@ answers-before n cs ds p a =
     go k l (inr f) = let z = a .accepts .1 (f .0) in absurd (omega arith)
 
 -- whatever beginning is a reply sequence has the length that is claimed
-pub one-length : {o : Opening} {bs : List ℕ} {n : ℕ} → JustOne o bs n → (p : List ℕ) → Begins p bs → Sequence o p → n ≡ length p
-one-length j p b s = j .long ∙ sym (ap length (j .only p b s))
+pub one-length : {o : Opening} {bs : List ℕ} {n : ℕ} {x : Endpoint} → JustOne o bs n x → (p : List ℕ) (y : Endpoint) → Begins p bs → Sequence o p y → n ≡ length p
+one-length j p y b s = j .long ∙ sym (ap length (j .only p y b s .0))

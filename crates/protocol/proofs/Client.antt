@@ -15,11 +15,12 @@ use Rattle.protocol.specs.declared.Reply.the-variants.{NegotiationRes, A
 use Rattle.protocol.specs.declared.Verdict.the-variants.{Good, Bad}
 use Rattle.protocol.specs.declared.Decision.{Decision}
 use Rattle.protocol.specs.declared.Decision.the-variants.{Undecided, Decided}
+use Rattle.protocol.specs.Bound.{Endpoint, unbound, proxyBound, responseBound, boundBy}
 use Rattle.protocol.specs.Opening.{noAuth, userPass, Opening, v5, v4, replies, atOpening, later}
 use Rattle.protocol.specs.Replies.{decide}
 use Rattle.protocol.specs.Machine.{Machine, has, sends, reads, run, machine, usedBy, used}
 use Rattle.protocol.specs.Agreement.{asMachine}
-use Rattle.protocol.specs.Client.{Kept, ClientTalk, due, atProxyRes, atAuthenticationRes, afterMethod, talkAt, told, client, kept, begun, side, outcomeOf}
+use Rattle.protocol.specs.Client.{Kept, ClientTalk, due, atProxyRes, atAuthenticationRes, afterMethod, talkAt, told, client, kept, begun, side, outcomeOf, boundIn}
 use Rattle.protocol.proofs.Replies.{extends}
 use Rattle.talk.specs.Talk.{done, failed, stop, send, await, Session, waiting, ended, Fed, deciding, feed, isOver, reached}
 use Rattle.talk.specs.Lawful.{Shaped, Lawful}
@@ -54,14 +55,14 @@ client-lawful c = record { stable = extends; shaped = shaped-at c }
 -- ---- the plain machine
 
 abbrev ClientFed : Type 0
-ClientFed = Fed Reply Unit SocksError
+ClientFed = Fed Reply Endpoint SocksError
 
-same-machine : (m n : Machine) → m .sent ≡ n .sent → m .outcome ≡ n .outcome → m .place ≡ n .place → m ≡ n
-same-machine m n p q r = λ i. record { sent = p i; outcome = q i; place = r i }
+same-machine : (m n : Machine) → m .sent ≡ n .sent → m .outcome ≡ n .outcome → m .bound ≡ n .bound → m .place ≡ n .place → m ≡ n
+same-machine m n p q b r = λ i. record { sent = p i; outcome = q i; bound = b i; place = r i }
 
 -- what a machine has that had sent bytes and stood at a place, and then was fed
 abbrev machineAfter : List ℕ → ℕ → ClientFed → Machine
-machineAfter sent place f = has (sent ++ f .sent) (outcomeOf (f .session)) (place + f .place)
+machineAfter sent place f = has (sent ++ f .sent) (outcomeOf (f .session)) (boundIn (f .session)) (place + f .place)
 
 -- requests go, and then a talk
 abbrev goes : List (List ℕ) → ClientTalk → ClientTalk
@@ -69,39 +70,39 @@ goes [] t = t
 goes (q ∷ qs) t = send q (goes qs t)
 
 -- a talk follows the replies that are expected and the requests that are left
-abbrev Follows : List Reply → List (List ℕ) → ClientTalk → Type 0
-Follows [] left t = t ≡ stop (done tt)
-Follows (e ∷ es) left t =
+abbrev Follows : List Reply → List (List ℕ) → Endpoint → ClientTalk → Type 0
+Follows [] left x t = t ≡ stop (done x)
+Follows (e ∷ es) left x t =
     (k : List ℕ → ClientTalk) × (u : List ℕ → ClientTalk) × (t ≡ await e k)
-    × ((m : List ℕ) → (k m ≡ goes (take 1 left) (u m)) × Follows es (drop 1 left) (u m))
+    × ((m : List ℕ) → (k m ≡ goes (take 1 left) (u m)) × Follows es (drop 1 left) (boundBy e m) (u m))
 
 module _ (c : Kept) where
   sends-feed : (qs : List (List ℕ)) (sent : List ℕ) (place : ℕ) (bs : List ℕ) (t : ClientTalk)
       → machineAfter (sends qs sent) place (feed (client c) t bs) ≡ machineAfter sent place (feed (client c) (goes qs t) bs)
   unfolding feed
   sends-feed [] sent place bs t = refl
-  sends-feed (q ∷ qs) sent place bs t = sends-feed qs (sent ++ q) place bs t ∙ same-machine _ _ (append-assoc sent q _) refl refl
+  sends-feed (q ∷ qs) sent place bs t = sends-feed qs (sent ++ q) place bs t ∙ same-machine _ _ (append-assoc sent q _) refl refl refl
 
   reads-feed : (place : ℕ) (sent : List ℕ) (d : Decision) (s : Reply) (bs : List ℕ) (on : ℕ → ClientFed) (next : ℕ → Machine)
-      → ((n : ℕ) → d ≡ Decided n Good → next (place + n) ≡ machineAfter sent (place + n) (on n))
+      → ((n : ℕ) → d ≡ Decided n Good → next n ≡ machineAfter sent (place + n) (on n))
       → reads d sent place next ≡ machineAfter sent place (deciding (told d) (waiting s bs) on)
-  reads-feed place sent Undecided s bs on next h = same-machine _ _ (sym (append-nil sent)) refl (sym (add-zero place))
-  reads-feed place sent (Decided n Good) s bs on next h = h n refl ∙ same-machine _ _ refl refl (omega arith)
-  reads-feed place sent (Decided n (Bad e)) s bs on next h = same-machine _ _ (sym (append-nil sent)) refl (omega arith)
+  reads-feed place sent Undecided s bs on next h = same-machine _ _ (sym (append-nil sent)) refl refl (sym (add-zero place))
+  reads-feed place sent (Decided n Good) s bs on next h = h n refl ∙ same-machine _ _ refl refl refl (omega arith)
+  reads-feed place sent (Decided n (Bad e)) s bs on next h = same-machine _ _ (sym (append-nil sent)) refl refl (omega arith)
 
-  run-feed : (es : List Reply) (left : List (List ℕ)) (t : ClientTalk) (sent : List ℕ) (place : ℕ) (bs : List ℕ)
-      → Follows es left t → run es left sent place bs ≡ machineAfter sent place (feed (client c) t (drop place bs))
+  run-feed : (es : List Reply) (left : List (List ℕ)) (x : Endpoint) (t : ClientTalk) (sent : List ℕ) (place : ℕ) (bs : List ℕ)
+      → Follows es left x t → run es left sent x place bs ≡ machineAfter sent place (feed (client c) t (drop place bs))
   unfolding run feed
-  run-feed [] left t sent place bs e = rw e (same-machine _ _ (sym (append-nil sent)) refl (sym (add-zero place)))
-  run-feed (e ∷ es) left t sent place bs (k, u, w, f) =
+  run-feed [] left x t sent place bs e = rw e (same-machine _ _ (sym (append-nil sent)) refl refl (sym (add-zero place)))
+  run-feed (e ∷ es) left x t sent place bs (k, u, w, f) =
       rw w
       (reads-feed place sent (decide e (drop place bs)) e (drop place bs)
       (λ n. feed (client c) (k (take n (drop place bs))) (drop n (drop place bs)))
-      (λ p. run es (drop 1 left) (sends (take 1 left) sent) p bs)
+      (λ n. run es (drop 1 left) (sends (take 1 left) sent) (boundBy e (take n (drop place bs))) (place + n) bs)
       (λ n i.
       let m = take n (drop place bs) in
       rw (f m .0, drop-drop n place bs)
-      (run-feed es (drop 1 left) (u m) (sends (take 1 left) sent) (place + n) bs (f m .1)
+      (run-feed es (drop 1 left) (boundBy e m) (u m) (sends (take 1 left) sent) (place + n) bs (f m .1)
       ∙ sends-feed (take 1 left) sent (place + n) (drop (place + n) bs) (u m))))
 
 -- ---- the openings' talks follow their replies and requests
@@ -111,10 +112,10 @@ firstReply (v5 noAuth d port o) = NegotiationRes NoAuth
 firstReply (v5 (userPass u p) d port o) = NegotiationRes UserPass
 firstReply (v4 d port) = Response
 
-at-last : Follows (ProxyRes ∷ []) [] atProxyRes
-at-last = (_, (λ m. stop (done tt)), refl, λ m. (refl, refl))
+at-last : Follows (ProxyRes ∷ []) [] unbound atProxyRes
+at-last = (_, (λ m. stop (done (proxyBound m))), refl, λ m. (refl, refl))
 
-follows : (o : Opening) → Follows (replies o) (later o) (talkAt (kept o) (firstReply o))
+follows : (o : Opening) → Follows (replies o) (later o) unbound (talkAt (kept o) (firstReply o))
 unfolding firstReply
 follows (v5 noAuth d port true) = (_, (λ m. atProxyRes), refl, λ m. (refl, at-last))
 follows (v5 noAuth d port false) = (_, (λ m. atProxyRes), refl, λ m. (refl, at-last))
@@ -122,7 +123,7 @@ follows (v5 (userPass u p) d port true) =
     (_, (λ m. atAuthenticationRes (kept (v5 (userPass u p) d port true))), refl, λ m. (refl, (_, (λ m. atProxyRes), refl, λ m. (refl, at-last))))
 follows (v5 (userPass u p) d port false) =
     (_, (λ m. atAuthenticationRes (kept (v5 (userPass u p) d port false))), refl, λ m. (refl, (_, (λ m. atProxyRes), refl, λ m. (refl, at-last))))
-follows (v4 d port) = (_, (λ m. stop (done tt)), refl, λ m. (refl, refl))
+follows (v4 d port) = (_, (λ m. stop (done (responseBound m))), refl, λ m. (refl, refl))
 
 begun-goes : (o : Opening) → begun o ≡ goes (atOpening o) (talkAt (kept o) (firstReply o))
 unfolding firstReply
@@ -144,16 +145,16 @@ machine-after : (o : Opening) (bs : List ℕ) → machine o bs ≡ machineAfter 
 unfolding machine
 machine-after o bs =
     rw (begun-goes o)
-    (run-feed (kept o) (replies o) (later o) (talkAt (kept o) (firstReply o)) (sends (atOpening o) []) 0 bs (follows o)
+    (run-feed (kept o) (replies o) (later o) unbound (talkAt (kept o) (firstReply o)) (sends (atOpening o) []) 0 bs (follows o)
     ∙ sends-feed (kept o) (atOpening o) [] 0 bs (talkAt (kept o) (firstReply o)))
 
 pub machine-feed : (o : Opening) (bs : List ℕ) → machine o bs ≡ asMachine (feed (side o) (begun o) bs)
-machine-feed o bs = let f = feed (side o) (begun o) bs in machine-after o bs ∙ same-machine (machineAfter [] 0 f) (asMachine f) refl refl (zero-add (f .place))
+machine-feed o bs = let f = feed (side o) (begun o) bs in machine-after o bs ∙ same-machine (machineAfter [] 0 f) (asMachine f) refl refl refl (zero-add (f .place))
 
 used-reached : (f : ClientFed) (bs : List ℕ) → (isOver (f .session) ≡ false → reached f ≡ length bs) → usedBy (outcomeOf (f .session)) (f .place) bs ≡ reached f
 used-reached f bs h = go (f .session) refl
   where
-    go : (s : Session Reply Unit SocksError) → f .session ≡ s → usedBy (outcomeOf s) (f .place) bs ≡ reached f
+    go : (s : Session Reply Endpoint SocksError) → f .session ≡ s → usedBy (outcomeOf s) (f .place) bs ≡ reached f
     go (waiting s held) e = sym (h (rw e))
     go (ended (done x)) e = rw e (omega arith)
     go (ended (failed x)) e = rw e (omega arith)

@@ -10,6 +10,7 @@ pub mod Hosts
 pub mod Openings
 pub mod Replies
 pub mod Words
+pub mod Named
 pub mod Client
 pub mod Sequences
 pub mod Examples

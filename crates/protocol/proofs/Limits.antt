@@ -19,7 +19,7 @@ use Rattle.protocol.specs.declared.Verdict.the-variants.{Good, Bad}
 use Rattle.protocol.specs.declared.Decision.{Decision}
 use Rattle.protocol.specs.declared.Decision.the-variants.{Undecided, Decided}
 use Rattle.protocol.specs.declared.SocksError.{SocksError}
-use Rattle.protocol.specs.declared.SocksError.the-variants.{ShortOutput, MissingHost, HostByte, MissingPort, CredentialTooLong, HostTooLong, IpV6, DnsFailure, UnexpectedEof, Parsing, Unsupported, MethodMismatch, Failed, Command, Settled, OutOfOrder, AnnouncesName}
+use Rattle.protocol.specs.declared.SocksError.the-variants.{ShortOutput, MissingHost, HostByte, MissingPort, CredentialTooLong, HostTooLong, IpV6, DnsFailure, UnexpectedEof, Parsing, Unsupported, MethodMismatch, Failed, Command, Settled, NotOpen, ShortText, OutOfOrder, AnnouncesName}
 use Rattle.protocol.specs.declared.Answer.{Answer}
 use Rattle.protocol.specs.declared.Answer.the-variants.{Accepted, Refused}
 use Rattle.protocol.specs.declared.Outcome.{Outcome}
@@ -33,7 +33,8 @@ use Rattle.protocol.specs.AddressReading.{Destination, ipv4, ipv6, domai
 use Rattle.protocol.specs.Requests.{negotiationReq, authenticationReq, addressField, proxyReq, Destination4, address, name, request}
 use Rattle.protocol.specs.Opening.{V5, V4, recordFamily, firstRecord, unlessFour, firstFour, check5, check4, foundFour, asked4, opening4, Opening, v5, noAuth, userPass, asked5, orElse, credentialsIf, portNumber, opening5, replies, atOpening, later, v4, startRoom, Limits, Sixteen}
 use Rattle.protocol.specs.Replies.{decide}
-use Rattle.protocol.specs.Machine.{sends, reads, run, machine}
+use Rattle.protocol.specs.Bound.{Endpoint, unbound, boundBy}
+use Rattle.protocol.specs.Machine.{Machine, sends, reads, run, machine}
 use Rattle.protocol.proofs.Openings.{check5-just, check4-just}
 use Rattle.protocol.proofs.Destinations.{ipv4-length, ipv6-length, ipv6-just, domain-is, name-just}
 
@@ -176,21 +177,24 @@ first-and-rest : (qs : List (List ℕ)) → lengths (take 1 qs) + lengths (drop 
 first-and-rest [] = refl
 first-and-rest (q ∷ qs) = omega arith
 
-run-length : (es : List Reply) (left : List (List ℕ)) (sent : List ℕ) (place : ℕ) (bs : List ℕ) → length (run es left sent place bs .sent) ≤ length sent + lengths left
+run-length : (es : List Reply) (left : List (List ℕ)) (sent : List ℕ) (x : Endpoint) (place : ℕ) (bs : List ℕ)
+    → length (run es left sent x place bs .sent) ≤ length sent + lengths left
 unfolding run
-run-length [] left sent place bs = omega arith
-run-length (e ∷ es) left sent place bs =
-    go (decide e (drop place bs)) (λ p. let h = run-length es (drop 1 left) (sends (take 1 left) sent) p bs in omega (arith, sends-length (take 1 left) sent, first-and-rest left))
+run-length [] left sent x place bs = omega arith
+run-length (e ∷ es) left sent x place bs =
+    go (decide e (drop place bs)) (λ n. run es (drop 1 left) (sends (take 1 left) sent) (boundBy e (take n (drop place bs))) (place + n) bs)
+    (λ n.
+    let h = run-length es (drop 1 left) (sends (take 1 left) sent) (boundBy e (take n (drop place bs))) (place + n) bs in
+    omega (arith, sends-length (take 1 left) sent, first-and-rest left))
   where
-    go : (d : Decision) → ((p : ℕ) → length (run es (drop 1 left) (sends (take 1 left) sent) p bs .sent) ≤ length sent + lengths left)
-        → length (reads d sent place (λ p. run es (drop 1 left) (sends (take 1 left) sent) p bs) .sent) ≤ length sent + lengths left
-    go Undecided ih = omega arith
-    go (Decided n Good) ih = ih (place + n)
-    go (Decided n (Bad x)) ih = omega arith
+    go : (d : Decision) (next : ℕ → Machine) → ((n : ℕ) → length (next n .sent) ≤ length sent + lengths left) → length (reads d sent place next .sent) ≤ length sent + lengths left
+    go Undecided next ih = omega arith
+    go (Decided n Good) next ih = ih n
+    go (Decided n (Bad y)) next ih = omega arith
 
 sent-length : (o : Opening) (bs : List ℕ) → length (machine o bs .sent) ≤ lengths (atOpening o) + lengths (later o)
 unfolding machine
-sent-length o bs = omega (arith, run-length (replies o) (later o) (sends (atOpening o) []) 0 bs, sends-length (atOpening o) [])
+sent-length o bs = omega (arith, run-length (replies o) (later o) (sends (atOpening o) []) unbound 0 bs, sends-length (atOpening o) [])
 
 -- an opening whose requests keep to their limits sends at most 778 bytes over v5, and 1,024 over v4
 pub sent-within : (o : Opening) → Limits o → (bs : List ℕ) → length (machine o bs .sent) ≤ startRoom o
@@ -218,6 +222,8 @@ number-is MethodMismatch = (lit< tt, λ q. omega arith)
 number-is Failed = (lit< tt, λ q. omega arith)
 number-is (Command s) = (lit< tt, λ q. omega arith)
 number-is Settled = (lit< tt, λ q. omega arith)
+number-is NotOpen = (lit< tt, λ q. omega arith)
+number-is ShortText = (lit< tt, λ q. omega arith)
 number-is OutOfOrder = (lit< tt, λ q. omega arith)
 number-is AnnouncesName = (lit< tt, λ q. omega arith)
 

@@ -6,7 +6,7 @@ use mathlib.Core.Logic.{_↔_}
 use mathlib.Core.Bool.{Bool, true, false, cond, _&&_, _||_, not}
 use mathlib.Core.List.{List, [], _∷_, _++_, append-assoc, append-nil}
 use lib.ListN.{length, take, drop, length-append, length-drop, take-append-drop}
-use lib.Seq.{take-at, length-take-le}
+use lib.Seq.{take-all, take-at, drop-at, length-take-le}
 use lib.Dec.{leb, eqb, lit≤}
 use borrow.Author.Tests.{leb-true, le-leb, eqb-true, eqb-false}
 use Rattle.protocol.specs.declared.AuthMethod.{AuthMethod}
@@ -19,11 +19,13 @@ use Rattle.protocol.specs.declared.Verdict.{Verdict}
 use Rattle.protocol.specs.declared.Verdict.the-variants.{Good, Bad}
 use Rattle.protocol.specs.declared.Decision.{Decision}
 use Rattle.protocol.specs.declared.Decision.the-variants.{Undecided, Decided}
-use Rattle.protocol.specs.Bytes.{Bytes, byte}
+use Rattle.protocol.specs.Bytes.{Bytes, byte, twoOf}
 use Rattle.protocol.specs.Requests.{methodByte}
+use Rattle.protocol.specs.AddressReading.{Destination, ipv4, ipv6, domain}
+use Rattle.protocol.specs.Bound.{Endpoint, endpoint, unbound, proxyBound, responseBound, boundBy}
 use Rattle.protocol.specs.Utf8.{Utf8, isUtf8}
 use Rattle.protocol.specs.Replies.{upon, negotiationVerdict, authenticationVerdict, responseVerdict, headAllowed, typeAllowed, proxySize, nameField, proxyVerdict, proxyAt, decide}
-use Rattle.protocol.specs.Grammar.{Bound, four, six, named, Word, method-00, method-02, accepted, connected, granted}
+use Rattle.protocol.specs.Grammar.{BoundField, four, six, named, Word, method-00, method-02, accepted, connected, granted}
 use Rattle.protocol.proofs.Tests.{both}
 use Rattle.protocol.proofs.Utf8.{utf8-just}
 
@@ -43,24 +45,48 @@ good-name : (n : ℕ) (s port more : List ℕ) → length s ≡ n → Utf8 s →
 unfolding proxyVerdict nameField
 good-name n s port more l u = rw (append-assoc s port more, take-at s (port ++ more) n l, utf8-just s .1 u)
 
-good-bound : (a more : List ℕ) → Bound a → proxyAt (5 ∷ 0 ∷ 0 ∷ (a ++ more)) ≡ Decided (3 + length a) Good
+good-bound : (a more : List ℕ) (x : Endpoint) → BoundField a x → proxyAt (5 ∷ 0 ∷ 0 ∷ (a ++ more)) ≡ Decided (3 + length a) Good
 unfolding headAllowed typeAllowed proxySize proxyVerdict
-good-bound _ more (four {a} l) =
-    proxy-whole (5 ∷ 0 ∷ 0 ∷ 1 ∷ (a ++ more)) refl refl (lit≤ tt) (omega (arith, length-append a more)) ∙ rw l
-good-bound _ more (six {a} l) =
-    proxy-whole (5 ∷ 0 ∷ 0 ∷ 4 ∷ (a ++ more)) refl refl (lit≤ tt) (omega (arith, length-append a more)) ∙ rw l
-good-bound _ more (named {n} s port h h′ l u p) =
+good-bound _ more _ (four a port l p) =
+    proxy-whole (5 ∷ 0 ∷ 0 ∷ 1 ∷ ((a ++ port) ++ more)) refl refl (lit≤ tt) (omega (arith, length-append (a ++ port) more, length-append a port)) ∙ ap (λ (k : ℕ). Decided k Good) (omega (arith, length-append a port))
+good-bound _ more _ (six a port l p) =
+    proxy-whole (5 ∷ 0 ∷ 0 ∷ 4 ∷ ((a ++ port) ++ more)) refl refl (lit≤ tt) (omega (arith, length-append (a ++ port) more, length-append a port)) ∙ ap (λ (k : ℕ). Decided k Good) (omega (arith, length-append a port))
+good-bound _ more _ (named {n} s port h h′ l u p) =
     proxy-whole (5 ∷ 0 ∷ 0 ∷ 3 ∷ n ∷ ((s ++ port) ++ more)) refl (rw (le-leb 1 n h)) (omega arith)
     (omega (arith, length-append (s ++ port) more, length-append s port))
     ∙ rw (good-name n s port more l u) (ap (λ (k : ℕ). Decided k Good) (omega (arith, length-append s port)))
 
-pub word-good : (e : Reply) (w more : List ℕ) → Word e w → decide e (w ++ more) ≡ Decided (length w) Good
+pub word-good : (e : Reply) (w more : List ℕ) {x : Endpoint} → Word e w x → decide e (w ++ more) ≡ Decided (length w) Good
 unfolding decide negotiationVerdict authenticationVerdict responseVerdict
 word-good _ _ more method-00 = upon-yes 2 (5 ∷ 0 ∷ more) _ (omega arith)
 word-good _ _ more method-02 = upon-yes 2 (5 ∷ 2 ∷ more) _ (omega arith)
 word-good _ _ more accepted = upon-yes 2 (1 ∷ 0 ∷ more) _ (omega arith)
-word-good _ _ more (connected {a} x) = good-bound a more x ∙ ap (λ (k : ℕ). Decided k Good) (omega arith)
-word-good _ _ more (granted {a} l) = upon-yes 8 (0 ∷ 0x5A ∷ (a ++ more)) _ (omega (arith, length-append a more)) ∙ ap (λ (k : ℕ). Decided k Good) (omega arith)
+word-good _ _ more (connected {a} {x} b) = good-bound a more x b ∙ ap (λ (k : ℕ). Decided k Good) (omega arith)
+word-good _ _ more (granted q a l k) =
+    upon-yes 8 (0 ∷ 0x5A ∷ ((q ++ a) ++ more)) _ (omega (arith, length-append (q ++ a) more, length-append q a)) ∙ ap (λ (j : ℕ). Decided j Good) (omega (arith, length-append q a))
+
+-- ---- what a word names is what its bytes do
+
+-- the part behind one of k bytes
+behind : (a b : List ℕ) (k : ℕ) → length a ≡ k → (take k (a ++ b) ≡ a) × (drop k (a ++ b) ≡ b)
+behind a b k l = (take-at a b k l, drop-at a b k l)
+
+field-names : (a : List ℕ) (x : Endpoint) → BoundField a x → proxyBound (5 ∷ 0 ∷ 0 ∷ a) ≡ x
+unfolding proxyBound
+field-names _ _ (four a port l p) = let (t, d) = behind a port 4 l in rw (t, d)
+field-names _ _ (six a port l p) = let (t, d) = behind a port 16 l in rw (t, d)
+field-names _ _ (named {n} s port h h′ l u p) = let (t, d) = behind s port n l in rw (t, d)
+
+pub word-names : (e : Reply) (w : List ℕ) (x : Endpoint) → Word e w x → boundBy e w ≡ x
+unfolding responseBound
+word-names _ _ _ method-00 = refl
+word-names _ _ _ method-02 = refl
+word-names _ _ _ accepted = refl
+word-names _ _ _ (connected {a} {x} b) = field-names a x b
+word-names _ _ _ (granted (b ∷ c ∷ []) a l k) = rw (take-all 4 a (omega arith))
+word-names _ _ _ (granted [] a l k) = absurd (omega arith)
+word-names _ _ _ (granted (b ∷ []) a l k) = absurd (omega arith)
+word-names _ _ _ (granted (b ∷ c ∷ d ∷ q) a l k) = absurd (omega arith)
 
 -- ---- from the reader to the word
 
@@ -68,10 +94,11 @@ pub record Found (e : Reply) (bs : List ℕ) (n : ℕ) : Type 0 where
   pub word : List ℕ
   pub follows : List ℕ
   pub split : bs ≡ word ++ follows
-  pub is : Word e word
+  pub names : Endpoint
+  pub is : Word e word names
   pub count : length word ≡ n
 
-upon-inv : (n : ℕ) (bs : List ℕ) (d : Decision) (k : ℕ) → upon n bs d ≡ Decided k Good → (n ≤ length bs) × (d ≡ Decided k Good)
+pub upon-inv : (n : ℕ) (bs : List ℕ) (d : Decision) (k : ℕ) → upon n bs d ≡ Decided k Good → (n ≤ length bs) × (d ≡ Decided k Good)
 upon-inv n bs d k q = go (leb n (length bs)) refl q
   where
     go : (b : Bool) → leb n (length bs) ≡ b → cond b d Undecided ≡ Decided k Good → (n ≤ length bs) × (d ≡ Decided k Good)
@@ -90,7 +117,7 @@ unpassed : (b : Bool) (v : Verdict) (e : SocksError) → cond b (Bad e) v ≡ Go
 unpassed true v e q = let z : _≡_ {A = ℕ} 0 1 = cc in absurd (omega arith)
 unpassed false v e q = (refl, q)
 
-at-place : (n : ℕ) (v : Verdict) (k : ℕ) → Decided n v ≡ Decided k Good → (n ≡ k) × (v ≡ Good)
+pub at-place : (n : ℕ) (v : Verdict) (k : ℕ) → Decided n v ≡ Decided k Good → (n ≡ k) × (v ≡ Good)
 at-place n v k q = (cc, cc)
 
 cut : (k : ℕ) (l : List ℕ) → l ≡ take k l ++ drop k l
@@ -102,8 +129,8 @@ parts2 (a ∷ []) h = absurd (omega arith)
 parts2 (a ∷ b ∷ bs) h = refl
 
 -- two bytes of a reply whose word they are
-found2 : (e : Reply) (bs : List ℕ) (n a b : ℕ) → 2 ≤ length bs → 2 ≡ n → byte bs 0 ≡ a → byte bs 1 ≡ b → Word e (a ∷ b ∷ []) → Found e bs n
-found2 e bs n a b h q p₀ p₁ w = record { word = a ∷ b ∷ []; follows = drop 2 bs; split = cc (parts2 bs h); is = w; count = q }
+found2 : (e : Reply) (bs : List ℕ) (n a b : ℕ) → 2 ≤ length bs → 2 ≡ n → byte bs 0 ≡ a → byte bs 1 ≡ b → Word e (a ∷ b ∷ []) unbound → Found e bs n
+found2 e bs n a b h q p₀ p₁ w = record { word = a ∷ b ∷ []; follows = drop 2 bs; split = cc (parts2 bs h); names = unbound; is = w; count = q }
 
 method-found : (m : AuthMethod) (bs : List ℕ) (n : ℕ) → 2 ≤ length bs → 2 ≡ n → byte bs 0 ≡ 5 → (byte bs 1 ≡ 255 → ⊥) → byte bs 1 ≡ methodByte m → Found (NegotiationRes m) bs n
 method-found NoAuth bs n h q p r e = found2 (NegotiationRes NoAuth) bs n 5 0 h q p e method-00
@@ -142,25 +169,28 @@ response-is bs n q =
     let a = passed (eqb (byte bs 0) 0) _ Parsing (v .1) in
     let b = passed (leb 90 (byte bs 1) && leb (byte bs 1) 93) _ Parsing (a .1) in
     let c = status-is (byte bs 1) 90 (b .1) in
-    let l = length-take-le 6 (drop 2 bs) (omega (arith, length-drop 2 bs, u .0)) in
+    let r = drop 2 (drop 2 bs) in
+    let l = length-take-le 2 (drop 2 bs) (omega (arith, length-drop 2 bs, u .0)) in
+    let m = length-take-le 4 r (omega (arith, length-drop 2 bs, length-drop 2 (drop 2 bs), u .0)) in
     record {
-      word = 0 ∷ 0x5A ∷ take 6 (drop 2 bs);
-      follows = drop 6 (drop 2 bs);
-      split = cc (parts2 bs (omega (arith, u .0)), cut 6 (drop 2 bs), eqb-true (byte bs 0) 0 (a .0), c);
-      is = granted l;
-      count = omega (arith, v .0);
+      word = 0 ∷ 0x5A ∷ (take 2 (drop 2 bs) ++ take 4 r);
+      follows = drop 4 r;
+      split = cc (parts2 bs (omega (arith, u .0)), cut 2 (drop 2 bs), cut 4 r, append-assoc (take 2 (drop 2 bs)) (take 4 r) (drop 4 r), eqb-true (byte bs 0) 0 (a .0), c);
+      names = endpoint (ipv4 (take 4 r)) (twoOf (take 2 (drop 2 bs)));
+      is = granted (take 2 (drop 2 bs)) (take 4 r) l m;
+      count = omega (arith, length-append (take 2 (drop 2 bs)) (take 4 r), v .0);
     }
 
 -- what the tests of a good connect reply have said
-record Connected (bs : List ℕ) (n : ℕ) : Type 0 where
-  head : headAllowed (byte bs 0) (byte bs 1) (byte bs 2) ≡ true
-  type : typeAllowed (byte bs 3) (byte bs 4) ≡ true
-  five : 5 ≤ length bs
-  all : proxySize (byte bs 3) (byte bs 4) ≤ length bs
-  count : proxySize (byte bs 3) (byte bs 4) ≡ n
-  verdict : proxyVerdict (byte bs 1) (byte bs 3) (nameField bs) ≡ Good
+pub record Connected (bs : List ℕ) (n : ℕ) : Type 0 where
+  pub head : headAllowed (byte bs 0) (byte bs 1) (byte bs 2) ≡ true
+  pub type : typeAllowed (byte bs 3) (byte bs 4) ≡ true
+  pub five : 5 ≤ length bs
+  pub all : proxySize (byte bs 3) (byte bs 4) ≤ length bs
+  pub count : proxySize (byte bs 3) (byte bs 4) ≡ n
+  pub verdict : proxyVerdict (byte bs 1) (byte bs 3) (nameField bs) ≡ Good
 
-tests : (bs : List ℕ) (n : ℕ) → proxyAt bs ≡ Decided n Good → Connected bs n
+pub tests : (bs : List ℕ) (n : ℕ) → proxyAt bs ≡ Decided n Good → Connected bs n
 unfolding proxyAt
 tests bs n q =
     let u = upon-inv 3 bs _ n q in
@@ -214,16 +244,20 @@ drop4 : (bs : List ℕ) → 5 ≤ length bs → bs ≡ byte bs 0 ∷ byte bs 1 �
 drop4 bs h = parts5 bs h ∙ ap (λ (l : List ℕ). byte bs 0 ∷ byte bs 1 ∷ byte bs 2 ∷ byte bs 3 ∷ l) (sym (ap (drop 4) (parts5 bs h)))
 
 -- an address of k bytes with its port
-fixed : (bs : List ℕ) (t k n : ℕ) → 5 ≤ length bs → 4 + k ≤ length bs → 4 + k ≡ n → byte bs 0 ≡ 5 → byte bs 1 ≡ 0 → byte bs 2 ≡ 0 → byte bs 3 ≡ t
-    → ((a : List ℕ) → length a ≡ k → Bound (t ∷ a)) → Found ProxyRes bs n
-fixed bs t k n h l c p₀ p₁ p₂ p₃ f =
+fixed : (bs : List ℕ) (t k n : ℕ) (of : List ℕ → Destination) → 5 ≤ length bs → 6 + k ≤ length bs → 6 + k ≡ n → byte bs 0 ≡ 5 → byte bs 1 ≡ 0 → byte bs 2 ≡ 0 → byte bs 3 ≡ t
+    → ((a port : List ℕ) → length a ≡ k → length port ≡ 2 → BoundField (t ∷ (a ++ port)) (endpoint (of a) (twoOf port))) → Found ProxyRes bs n
+fixed bs t k n of h l c p₀ p₁ p₂ p₃ f =
+    let a = take k (drop 4 bs) in
+    let r = drop k (drop 4 bs) in
     let m = length-take-le k (drop 4 bs) (omega (arith, length-drop 4 bs)) in
+    let j = length-take-le 2 r (omega (arith, length-drop 4 bs, length-drop k (drop 4 bs))) in
     record {
-      word = 5 ∷ 0 ∷ 0 ∷ t ∷ take k (drop 4 bs);
-      follows = drop k (drop 4 bs);
-      split = cc (drop4 bs h, cut k (drop 4 bs));
-      is = connected (f (take k (drop 4 bs)) m);
-      count = omega arith;
+      word = 5 ∷ 0 ∷ 0 ∷ t ∷ (a ++ take 2 r);
+      follows = drop 2 r;
+      split = cc (drop4 bs h, cut k (drop 4 bs), cut 2 r, append-assoc a (take 2 r) (drop 2 r));
+      names = endpoint (of a) (twoOf (take 2 r));
+      is = connected (f a (take 2 r) m j);
+      count = omega (arith, length-append a (take 2 r));
     }
 
 by-type : (bs : List ℕ) (n : ℕ) → byte bs 4 ≤ 255 → Connected bs n → (byte bs 0 ≡ 5) × (byte bs 2 ≡ 0) → Judged (byte bs 1) (byte bs 3) (nameField bs)
@@ -231,10 +265,10 @@ by-type : (bs : List ℕ) (n : ℕ) → byte bs 4 ≤ 255 → Connected bs n →
 unfolding proxySize nameField
 by-type bs n h c (p₀, p₂) j (is4 t) =
     let z : proxySize (byte bs 3) (byte bs 4) ≡ 10 = rw t in
-    fixed bs 1 6 n (c .five) (omega (arith, c .all)) (omega (arith, c .count)) p₀ (j .succeeded) p₂ t (λ a l. four l)
+    fixed bs 1 4 n ipv4 (c .five) (omega (arith, c .all)) (omega (arith, c .count)) p₀ (j .succeeded) p₂ t four
 by-type bs n h c (p₀, p₂) j (is6 t) =
     let z : proxySize (byte bs 3) (byte bs 4) ≡ 22 = rw t in
-    fixed bs 4 18 n (c .five) (omega (arith, c .all)) (omega (arith, c .count)) p₀ (j .succeeded) p₂ t (λ a l. six l)
+    fixed bs 4 16 n ipv6 (c .five) (omega (arith, c .all)) (omega (arith, c .count)) p₀ (j .succeeded) p₂ t six
 by-type bs n h c (p₀, p₂) j (isName t k) =
     let z : proxySize (byte bs 3) (byte bs 4) ≡ 7 + byte bs 4 = rw t in
     let r = drop (byte bs 4) (drop 5 bs) in
@@ -244,6 +278,7 @@ by-type bs n h c (p₀, p₂) j (isName t k) =
       word = 5 ∷ 0 ∷ 0 ∷ 3 ∷ byte bs 4 ∷ (nameField bs ++ take 2 r);
       follows = drop 2 r;
       split = cc (parts5 bs (c .five), cut (byte bs 4) (drop 5 bs), cut 2 r, append-assoc (nameField bs) (take 2 r) (drop 2 r), j .succeeded);
+      names = endpoint (domain (nameField bs)) (twoOf (take 2 r));
       is = connected (named (nameField bs) (take 2 r) k h l (j .text t) m);
       count = omega (arith, length-append (nameField bs) (take 2 r), c .count);
     }
@@ -267,12 +302,12 @@ no-more : (a b : List ℕ) → length a ≡ length (a ++ b) → b ≡ []
 no-more a [] h = refl
 no-more a (x ∷ b) h = absurd (omega (arith, length-append a (x ∷ b)))
 
-pub word-just : (e : Reply) (w : List ℕ) → Bytes w → decide e w ≡ Decided (length w) Good ↔ Word e w
+pub word-just : (e : Reply) (w : List ℕ) → Bytes w → decide e w ≡ Decided (length w) Good ↔ Word e w (boundBy e w)
 word-just e w y = (there, λ r. rw append-nil at (word-good e w [] r))
   where
-    there : decide e w ≡ Decided (length w) Good → Word e w
+    there : decide e w ≡ Decided (length w) Good → Word e w (boundBy e w)
     there q =
         let f = good-found e w (length w) y q in
         let z = no-more (f .word) (f .follows) (f .count ∙ ap length (f .split)) in
         let s : w ≡ f .word = f .split ∙ rw (z, append-nil) in
-        rw s (f .is)
+        rw (s, word-names e (f .word) (f .names) (f .is)) (f .is)

@@ -1,7 +1,7 @@
 -- Byte strings are lists of numbers.
-use Prim.Native.Nat.{ℕ, _≤_, _/_, _%_}
-use mathlib.Core.List.{List, [], _∷_}
-use lib.ListN.{getD}
+use Prim.Native.Nat.{ℕ, _+_, _*_, _-_, _≤_, _/_, _%_}
+use mathlib.Core.List.{List, [], _∷_, _++_}
+use lib.ListN.{length, replicate, getD}
 
 -- each number is a byte's
 abbrev pub Bytes : List ℕ → Type 0
@@ -14,3 +14,11 @@ byte bs i = getD bs i 0
 -- a field of two bytes, most significant first
 abbrev pub two : ℕ → List ℕ
 two n = n / 256 ∷ n % 256 ∷ []
+
+-- the number of such a field
+abbrev pub twoOf : List ℕ → ℕ
+twoOf bs = byte bs 0 * 256 + byte bs 1
+
+-- bytes at the start of an array of zeros
+abbrev pub padded : ℕ → List ℕ → List ℕ
+padded n bs = bs ++ replicate (n - length bs) 0

@@ -16,6 +16,7 @@ use Rattle.protocol.specs.declared.Decision.the-variants.{Undecided, Dec
 use Rattle.protocol.specs.declared.Outcome.{Outcome}
 use Rattle.protocol.specs.declared.Outcome.the-variants.{Waiting, Open, Failed}
 use Rattle.protocol.specs.Requests.{negotiationReq, authenticationReq, proxyReq, request}
+use Rattle.protocol.specs.Bound.{Endpoint, unbound, proxyBound, responseBound}
 use Rattle.protocol.specs.Opening.{noAuth, userPass, Opening, v5, v4}
 use Rattle.protocol.specs.Replies.{decide}
 use Rattle.talk.specs.Decision.{Verdict, Decision, undecided, decided, good, bad}
@@ -28,15 +29,16 @@ pub record Kept : Type 0 where
   pub proxy : List ℕ
 
 abbrev pub ClientTalk : Type 0
-ClientTalk = Talk Reply Unit SocksError
+ClientTalk = Talk Reply Endpoint SocksError
 
 -- plainly a request is sent when it is due; optimistically it went at the start
 abbrev pub due : Bool → List ℕ → ClientTalk → ClientTalk
 due true q t = t
 due false q t = send q t
 
+-- F-1: a talk is done with the address and port that its last reply names
 abbrev pub atProxyRes : ClientTalk
-atProxyRes = await ProxyRes (λ m. stop (done tt))
+atProxyRes = await ProxyRes (λ m. stop (done (proxyBound m)))
 
 abbrev pub atAuthenticationRes : Kept → ClientTalk
 atAuthenticationRes c = await AuthenticationRes (λ m. due (c .optimistic) (c .proxy) atProxyRes)
@@ -51,7 +53,7 @@ abbrev pub talkAt : Kept → Reply → ClientTalk
 talkAt c (NegotiationRes m) = await (NegotiationRes m) (λ r. afterMethod m c)
 talkAt c AuthenticationRes = atAuthenticationRes c
 talkAt c ProxyRes = atProxyRes
-talkAt c Response = await Response (λ m. stop (done tt))
+talkAt c Response = await Response (λ m. stop (done (responseBound m)))
 
 -- a decision as any side has it
 abbrev pub judged : code.Verdict → Verdict SocksError
@@ -66,7 +68,7 @@ abbrev pub client : Kept → Side
 client c =
     record {
       Stage = Reply;
-      Result = Unit;
+      Result = Endpoint;
       Error = SocksError;
       reads = λ s bs. told (decide s bs);
       talkAt = talkAt c;
@@ -93,10 +95,15 @@ begun (v4 d port) = send (request d port) (talkAt (kept (v4 d port)) Response)
 abbrev pub side : Opening → Side
 side o = client (kept o)
 
-abbrev pub outcomeOf : Session Reply Unit SocksError → Outcome
+abbrev pub outcomeOf : Session Reply Endpoint SocksError → Outcome
 outcomeOf (waiting s held) = Waiting
 outcomeOf (ended (done x)) = Open
 outcomeOf (ended (failed e)) = Failed e
+
+abbrev pub boundIn : Session Reply Endpoint SocksError → Endpoint
+boundIn (waiting s held) = unbound
+boundIn (ended (done x)) = x
+boundIn (ended (failed e)) = unbound
 
 -- the output that a start must lend, told by the reply that is waited for
 abbrev pub firstRoom : Reply → ℕ
@@ -113,6 +120,6 @@ room ProxyRes = 778
 room Response = 262
 
 -- a session that waits asks for so much output
-abbrev pub Waits : ℕ → Session Reply Unit SocksError → Type 0
+abbrev pub Waits : ℕ → Session Reply Endpoint SocksError → Type 0
 Waits r (waiting e h) = room e ≡ r
 Waits r (ended x) = Unit {0}

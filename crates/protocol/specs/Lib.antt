@@ -4,6 +4,7 @@ pub mod Host
 pub mod AddressText
 pub mod AddressReading
 pub mod Requests
+pub mod Bound
 pub mod Opening
 pub mod Utf8
 pub mod Replies

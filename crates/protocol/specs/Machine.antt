@@ -8,17 +8,19 @@ use Rattle.protocol.specs.declared.Decision.{Decision}
 use Rattle.protocol.specs.declared.Decision.the-variants.{Undecided, Decided}
 use Rattle.protocol.specs.declared.Outcome.{Outcome}
 use Rattle.protocol.specs.declared.Outcome.the-variants.{Waiting, Open, Failed}
+use Rattle.protocol.specs.Bound.{Endpoint, unbound, boundBy}
 use Rattle.protocol.specs.Opening.{Opening, replies, atOpening, later}
 use Rattle.protocol.specs.Replies.{decide}
 
--- its state; the outcome holds the status
+-- its state; the outcome holds the status. F-1: and the bound address, once it is open
 pub record Machine : Type 0 where
   pub sent : List ℕ
   pub outcome : Outcome
+  pub bound : Endpoint
   pub place : ℕ
 
-abbrev pub has : List ℕ → Outcome → ℕ → Machine
-has sent r place = record { sent = sent; outcome = r; place = place }
+abbrev pub has : List ℕ → Outcome → Endpoint → ℕ → Machine
+has sent r x place = record { sent = sent; outcome = r; bound = x; place = place }
 
 -- it sends requests, one after the other
 abbrev pub sends : List (List ℕ) → List ℕ → List ℕ
@@ -27,19 +29,21 @@ sends (q ∷ qs) sent = sends qs (sent ++ q)
 
 -- a reply read on from the place. Undecided: it stops, waiting. Otherwise the place moves. Bad: it stops, failed. Good: it goes on
 abbrev pub reads : Decision → List ℕ → ℕ → (ℕ → Machine) → Machine
-reads Undecided sent place on = has sent Waiting place
-reads (Decided n Good) sent place on = on (place + n)
-reads (Decided n (Bad e)) sent place on = has sent (Failed e) (place + n)
+reads Undecided sent place on = has sent Waiting unbound place
+reads (Decided n Good) sent place on = on n
+reads (Decided n (Bad e)) sent place on = has sent (Failed e) unbound (place + n)
 
--- for each expected reply in turn; after a good one it sends what is due, the next request if one is left; after the last it is open
-unfoldable pub run : List Reply → List (List ℕ) → List ℕ → ℕ → List ℕ → Machine
-run [] left sent place bs = has sent Open place
-run (e ∷ es) left sent place bs =
-    reads (decide e (drop place bs)) sent place (λ place′. run es (drop 1 left) (sends (take 1 left) sent) place′ bs)
+-- for each expected reply in turn; after a good one it sends what is due, the next request if one is left; after the last it is open, bound to
+-- what that one named
+unfoldable pub run : List Reply → List (List ℕ) → List ℕ → Endpoint → ℕ → List ℕ → Machine
+run [] left sent x place bs = has sent Open x place
+run (e ∷ es) left sent x place bs =
+    reads (decide e (drop place bs)) sent place
+    (λ n. run es (drop 1 left) (sends (take 1 left) sent) (boundBy e (take n (drop place bs))) (place + n) bs)
 
 -- it starts at place 0 and sends what goes at the opening
 unfoldable pub machine : Opening → List ℕ → Machine
-machine o bs = run (replies o) (later o) (sends (atOpening o) []) 0 bs
+machine o bs = run (replies o) (later o) (sends (atOpening o) []) unbound 0 bs
 
 -- its used bytes: all while waiting, otherwise up to the place
 abbrev pub usedBy : Outcome → ℕ → List ℕ → ℕ

@@ -6,7 +6,7 @@ use Rattle.protocol.specs.declared.Outcome.{Outcome}
 use Rattle.protocol.specs.declared.Outcome.the-variants as Out
 use Rattle.protocol.specs.declared.Outcome.the-variants.{Waiting, Open}
 use Rattle.protocol.specs.declared.SocksError.{SocksError}
-use Rattle.protocol.specs.declared.SocksError.the-variants.{ShortOutput, MissingHost, HostByte, MissingPort, CredentialTooLong, HostTooLong, IpV6, DnsFailure, UnexpectedEof, Parsing, Unsupported, MethodMismatch, Failed, Command, Settled, OutOfOrder, AnnouncesName}
+use Rattle.protocol.specs.declared.SocksError.the-variants.{ShortOutput, MissingHost, HostByte, MissingPort, CredentialTooLong, HostTooLong, IpV6, DnsFailure, UnexpectedEof, Parsing, Unsupported, MethodMismatch, Failed, Command, Settled, NotOpen, ShortText, OutOfOrder, AnnouncesName}
 
 -- number and status; the status is 0 except with 15
 abbrev pub numbers : SocksError → ℕ × ℕ
@@ -25,6 +25,8 @@ numbers MethodMismatch = (13, 0)
 numbers Failed = (14, 0)
 numbers (Command s) = (15, s)
 numbers Settled = (16, 0)
+numbers NotOpen = (17, 0)
+numbers ShortText = (18, 0)
 numbers OutOfOrder = (22, 0)
 numbers AnnouncesName = (23, 0)
 

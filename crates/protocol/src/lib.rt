@@ -37,6 +37,20 @@ pub enum AddressKind {
     Domain,
 }
 
+// An address and its port: a kind, the first bytes of an array, and the port. An Ipv4 has four bytes, an Ipv6 sixteen, a Domain `len`.
+pub struct Address {
+    pub kind: AddressKind,
+    pub len: u8,
+    pub bytes: [u8; 255],
+    pub port: u16,
+}
+
+// What an open session keeps of its bound address beside the address's bytes.
+pub struct Bound {
+    pub kind: AddressKind,
+    pub port: u16,
+}
+
 // Why a call was refused or a session failed. specs/Numbers.antt gives each its number and status.
 pub enum SocksError {
     ShortOutput,
@@ -54,6 +68,8 @@ pub enum SocksError {
     Failed,
     Command(u8),
     Settled,
+    NotOpen,
+    ShortText,
     OutOfOrder,
     AnnouncesName,
 }

@@ -1,4 +1,4 @@
-// Runs the cases on standard input, each a preparing, a start, its deliveries and perhaps an end, and says in a line what each came to.
+// Runs the cases on standard input, each a preparing, a start, its deliveries and perhaps an end and a text, and says in a line what each came to.
 ghost use mathlib.Core.Path.{_≡_};
 ghost use mathlib.Core.Bool.{true};
 ghost use Prim.Native.Nat.{_+_, _≤_};
@@ -7,9 +7,10 @@ ghost use Rattle.input.specs.Inputs.{Unread};
 ghost use Rattle.lines.specs.Lines.{Within};
 ghost use Rattle.course.specs.Bounds.{Keeps, Rooms};
 ghost use Rattle.cases.specs.Cases.{Ordered};
-ghost use Rattle.replay.specs.Deliveries.{Next};
+ghost use Rattle.replay.specs.Deliveries.{Next, Lends};
 use cases::heads;
 use cases::heads::Head;
+use course::Close;
 use course::Course;
 use course::SENT;
 use input::Input;
@@ -48,11 +49,25 @@ struct Passed {
     whole: bool,
 }
 
+// What stands behind the deliveries of a case, read: how much of a buffer is lent to the text, and whether it was all there.
+struct Behind {
+    input: Input,
+    lent: usize,
+    whole: bool,
+}
+
 // How a case came out.
 struct Done {
     input: Input,
     course: Course,
+    lent: usize,
     whole: bool,
+}
+
+// How many deliveries a case has, and its flags.
+struct Plan {
+    count: usize,
+    flags: u8,
 }
 
 fn want_delivery(from: Input, buffer: &mut [u8]) -> Found
@@ -67,6 +82,28 @@ fn want_delivery(from: Input, buffer: &mut [u8]) -> Found
         return Found { input, size: 0 };
     }
     Found { input, size: n }
+}
+
+fn take_behind(from: Input, flags: u8, buffer: &mut [u8]) -> Behind
+    requires { ⌜ Unread from (length (now buffer)) ⌝ }
+    ensures { λ r. ⌜ Lends flags r (now (buffer .exit)) ⌝ }
+{
+    let n = heads::behind_size(flags);
+    let input = input::want(from, buffer, n);
+    let at = input.at;
+    let end = input.end;
+    if end - at < n {
+        return Behind {
+            input,
+            lent: 0,
+            whole: false,
+        };
+    }
+    Behind {
+        input: input::past(input, n),
+        lent: heads::text_lent(flags, &buffer[at..end]),
+        whole: true,
+    }
 }
 
 // Passes over deliveries.
@@ -91,6 +128,23 @@ fn skip_deliveries(from: Input, count: usize, buffer: &mut [u8]) -> Passed
     Passed { input, whole: true }
 }
 
+// Passes over deliveries and what stands behind them.
+fn skip_rest(from: Input, plan: Plan, buffer: &mut [u8]) -> Passed
+    requires { ⌜ Unread from (length (now buffer)) ⌝ }
+    ensures { λ r. ⌜ Unread (r .input) (length (now (buffer .entry))) ⌝ }
+{
+    let passed = skip_deliveries(from, plan.count, buffer);
+    if !passed.whole {
+        return passed;
+    }
+    let behind = take_behind(passed.input, plan.flags, buffer);
+    let input = behind.input;
+    Passed {
+        input,
+        whole: behind.whole,
+    }
+}
+
 fn take_deliveries(
     from: Input,
     start: Course,
@@ -100,7 +154,7 @@ fn take_deliveries(
     text: &mut [u8],
 ) -> Done
     requires { ⌜ (Unread from (length (now buffer))) × ((Keeps start (length (now text))) × ((count ≤ 65535) × (Rooms (length (now kept)) (length (now text))))) ⌝ }
-    ensures { λ r. ⌜ (Unread (r .input) (length (now (buffer .entry)))) × (Keeps (r .course) (length (now (text .entry)))) ⌝ }
+    ensures { λ r. ⌜ (Unread (r .input) (length (now (buffer .entry)))) × ((Keeps (r .course) (length (now (text .entry)))) × (r .lent ≤ 2048)) ⌝ }
 {
     let mut input = from;
     let mut course = start;
@@ -112,6 +166,7 @@ fn take_deliveries(
             return Done {
                 input,
                 course,
+                lent: 0,
                 whole: false,
             };
         }
@@ -125,6 +180,7 @@ fn take_deliveries(
     Done {
         input,
         course,
+        lent: 0,
         whole: true,
     }
 }
@@ -142,11 +198,14 @@ fn refuse(input: Input, line: Line, offset: u64, text: &mut [u8]) -> Stand
 }
 
 // The number of deliveries stands behind the records.
-fn count_of(s: &[u8], head: Head) -> usize
+fn plan_of(s: &[u8], head: Head) -> Plan
     requires { ⌜ Ordered head ⌝ }
-    ensures { λ r. ⌜ r ≤ 65535 ⌝ }
+    ensures { λ r. ⌜ r .count ≤ 65535 ⌝ }
 {
-    heads::number_at(s, head.size - 2) as usize
+    Plan {
+        count: heads::number_at(s, head.size - 2) as usize,
+        flags: heads::byte_at(s, 1),
+    }
 }
 
 // A case of more records than a list holds.
@@ -156,8 +215,8 @@ fn skip_case(input: Input, head: Head, line: Line, buffer: &mut [u8], text: &mut
 {
     let at = input.at;
     let end = input.end;
-    let count = count_of(&buffer[at..end], head);
-    let passed = skip_deliveries(input::past(input, head.size), count, buffer);
+    let plan = plan_of(&buffer[at..end], head);
+    let passed = skip_rest(input::past(input, head.size), plan, buffer);
     let next = passed.input;
     if !passed.whole {
         return refuse(next, line, input.offset, text);
@@ -169,32 +228,51 @@ fn skip_case(input: Input, head: Head, line: Line, buffer: &mut [u8], text: &mut
     }
 }
 
-// An opened case. ends: whether the stream ends behind its deliveries.
+// An opened case.
 struct Begun {
     course: Course,
-    count: usize,
-    ends: bool,
+    plan: Plan,
 }
 
 fn open(s: &[u8], head: Head, line: Line, kept: &mut [u8]) -> Begun
     requires { ⌜ (Ordered head) × ((head .count ≤ 8) × ((head .size ≤ length (now s)) × (8192 ≤ length (now kept)))) ⌝ }
-    ensures { λ r. ⌜ (r .course .line ≡ line) × ((r .course .sent ≤ 8192) × (r .count ≤ 65535)) ⌝ }
+    ensures { λ r. ⌜ (r .course .line ≡ line) × ((r .course .sent ≤ 8192) × (r .plan .count ≤ 65535)) ⌝ }
 {
     let course = course::start(s, head, line, kept);
-    Begun {
+    let plan = plan_of(s, head);
+    Begun { course, plan }
+}
+
+// An opened case with its deliveries and what stands behind them.
+fn take_rest(from: Input, begun: Begun, buffer: &mut [u8], kept: &mut [u8], text: &mut [u8]) -> Done
+    requires { ⌜ (Unread from (length (now buffer))) × ((Keeps (begun .course) (length (now text))) × ((begun .plan .count ≤ 65535) × (Rooms (length (now kept)) (length (now text))))) ⌝ }
+    ensures { λ r. ⌜ (Unread (r .input) (length (now (buffer .entry)))) × ((Keeps (r .course) (length (now (text .entry)))) × (r .lent ≤ 2048)) ⌝ }
+{
+    let start = begun.course;
+    let plan = begun.plan;
+    let done = take_deliveries(from, start, plan.count, buffer, kept, text);
+    if !done.whole {
+        return done;
+    }
+    let behind = take_behind(done.input, plan.flags, buffer);
+    let input = behind.input;
+    let course = done.course;
+    Done {
+        input,
         course,
-        count: count_of(s, head),
-        ends: heads::ends(heads::byte_at(s, 1)),
+        lent: behind.lent,
+        whole: behind.whole,
     }
 }
 
 // The line of a case that began so at an offset.
 fn close(done: Done, begun: Begun, offset: u64, kept: &[u8], text: &mut [u8]) -> Stand
-    requires { ⌜ (Keeps (done .course) (length (now text))) × ((begun .count ≤ 65535) × (Rooms (length (now kept)) (length (now text)))) ⌝ }
+    requires { ⌜ (Keeps (done .course) (length (now text))) × ((done .lent ≤ 2048) × ((begun .plan .count ≤ 65535) × (Rooms (length (now kept)) (length (now text))))) ⌝ }
     ensures { λ r. ⌜ (r .input ≡ done .input) × (r .end ≤ length (now (text .entry))) ⌝ }
 {
     let input = done.input;
     let course = done.course;
+    let plan = begun.plan;
     if !done.whole {
         return refuse(input, course.line, offset, text);
     }
@@ -202,9 +280,12 @@ fn close(done: Done, begun: Begun, offset: u64, kept: &[u8], text: &mut [u8]) ->
         input,
         end: course::finish(
             course,
-            begun.course.answer,
-            begun.ends,
-            begun.count,
+            Close {
+                opened: begun.course.answer,
+                flags: plan.flags,
+                count: plan.count,
+                lent: done.lent,
+            },
             kept,
             text,
         ),
@@ -226,9 +307,8 @@ fn run_case(
     let at = input.at;
     let stop = input.end;
     let begun = open(&buffer[at..stop], head, line, kept);
-    let first = begun.course;
     let behind = input::past(input, head.size);
-    let done = take_deliveries(behind, first, begun.count, buffer, kept, text);
+    let done = take_rest(behind, begun, buffer, kept, text);
     close(done, begun, input.offset, kept, text)
 }
 

@@ -61,7 +61,19 @@ abbrev pub endText : Bool → ℕ → List ℕ
 endText ended n = cond ended (decimalOf n) none
 
 unfoldable pub answersText : List ℕ → Bool → ℕ → List ℕ
-answersText ns ended n = ((numbersText ns ++ space) ++ endText ended n) ++ newline
+answersText ns ended n = (numbersText ns ++ space) ++ endText ended n
+
+-- the bytes of a text, `-` if its answer is a refusal
+abbrev pub bytesText : ℕ → List ℕ → List ℕ
+bytesText n s = cond (eqb n 0) (hexOf s) none
+
+-- a text's answer and its bytes, with a space before each
+abbrev pub boundText : ℕ → List ℕ → List ℕ
+boundText n s = (space ++ numberText n) ++ bytesText n s
+
+-- the line's end, with these fields before it if the text was asked for
+unfoldable pub closeText : Bool → ℕ → List ℕ → List ℕ
+closeText asked n s = cond asked (boundText n s) [] ++ newline
 
 -- what is wrong with the case at an offset
 abbrev pub noticeText : List ℕ → ℕ → List ℕ

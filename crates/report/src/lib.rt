@@ -5,7 +5,7 @@ ghost use lib.ListN.{length};
 ghost use Rattle.numerals.specs.Added.{Adds};
 ghost use Rattle.numerals.specs.Digits.{decimalOf};
 ghost use Rattle.protocol.specs.Numbers.{answerNumber};
-ghost use Rattle.report.specs.Text.{fieldOf, numberText, outcomeText, statusOf, stateText, sentText, resultsText, moreText, numbersText, endText, answersText, noticeText};
+ghost use Rattle.report.specs.Text.{fieldOf, numberText, outcomeText, statusOf, stateText, sentText, resultsText, moreText, numbersText, endText, answersText, bytesText, boundText, closeText, noticeText};
 use numerals::put_decimal;
 use numerals::put_hex;
 use protocol::Answer;
@@ -179,7 +179,7 @@ fn put_end(ended: bool, answer: u8, text: &mut [u8], at: usize) -> usize
     put_code(answer, text, at)
 }
 
-// The deliveries' answers, the end's, and the line's end.
+// The deliveries' answers, and the end's.
 pub fn put_answers(answers: &[u8], ended: bool, answer: u8, text: &mut [u8], at: usize) -> usize
     requires { ⌜ at + 4 * length (now answers) + 50 ≤ length (now text) ⌝ }
     ensures { λ r. ⌜ r ≤ at + 4 * length (now (answers .entry)) + 50 ⌝ }
@@ -187,9 +187,46 @@ pub fn put_answers(answers: &[u8], ended: bool, answer: u8, text: &mut [u8], at:
 {
     let first = put_numbers(answers, text, at);
     text[first] = b' ';
-    let last = put_end(ended, answer, text, first + 1);
-    text[last] = b'\n';
-    last + 1
+    put_end(ended, answer, text, first + 1)
+}
+
+// The bytes of a text in hexadecimal, or `-` if its answer is a refusal.
+fn put_text(answer: u8, bytes: &[u8], text: &mut [u8], at: usize) -> usize
+    requires { ⌜ at + 2 * length (now bytes) + 1 ≤ length (now text) ⌝ }
+    ensures { λ r. ⌜ r ≤ at + 2 * length (now (bytes .entry)) + 1 ⌝ }
+    ensures { λ r. ⌜ Adds (now (text .entry)) at (bytesText answer (now (bytes .entry))) r (now (text .exit)) ⌝ }
+{
+    if answer != 0 {
+        text[at] = b'-';
+        return at + 1;
+    }
+    put_hex(bytes, text, at)
+}
+
+// A text's answer and its bytes, with a space before each.
+fn put_bound(answer: u8, bytes: &[u8], text: &mut [u8], at: usize) -> usize
+    requires { ⌜ at + 2 * length (now bytes) + 30 ≤ length (now text) ⌝ }
+    ensures { λ r. ⌜ r ≤ at + 2 * length (now (bytes .entry)) + 23 ⌝ }
+    ensures { λ r. ⌜ Adds (now (text .entry)) at (boundText answer (now (bytes .entry))) r (now (text .exit)) ⌝ }
+{
+    text[at] = b' ';
+    let end = put_number(answer as u64, text, at + 1);
+    put_text(answer, bytes, text, end)
+}
+
+// The line's end, with a text's answer and bytes before it if that was asked for.
+pub fn put_close(asked: bool, answer: u8, bytes: &[u8], text: &mut [u8], at: usize) -> usize
+    requires { ⌜ at + 2 * length (now bytes) + 30 ≤ length (now text) ⌝ }
+    ensures { λ r. ⌜ r ≤ at + 2 * length (now (bytes .entry)) + 30 ⌝ }
+    ensures { λ r. ⌜ Adds (now (text .entry)) at (closeText asked answer (now (bytes .entry))) r (now (text .exit)) ⌝ }
+{
+    if !asked {
+        text[at] = b'\n';
+        return at + 1;
+    }
+    let end = put_bound(answer, bytes, text, at);
+    text[end] = b'\n';
+    end + 1
 }
 
 // What is wrong with the case at an offset.

@@ -1,29 +1,48 @@
 -- The stages of a session, and the session of a handshake's side that a stage stands for.
 use Prim.Native.Nat.{ℕ}
-use mathlib.Core.List.{List}
+use mathlib.Core.List.{List, []}
 use Rattle.protocol.specs.declared.Reply.{Reply}
 use Rattle.protocol.specs.declared.Reply.the-variants.{NegotiationRes, AuthenticationRes, ProxyRes, Response}
 use Rattle.protocol.specs.declared.SocksError.{SocksError}
+use Rattle.protocol.specs.declared.Bound.{Bound}
+use Rattle.protocol.specs.Requests.{kindOf}
+use Rattle.protocol.specs.Bound.{Endpoint, endpoint, bytesIn, boundOf}
 use Rattle.sending.specs.declared.Stage.{Stage}
 use Rattle.sending.specs.declared.Stage.the-variants.{Awaiting, Open, Failed}
 use Rattle.talk.specs.Talk as talk
 use Rattle.talk.specs.Talk.{Fed}
 
 abbrev pub SideSession : Type 0
-SideSession = talk.Session Reply Unit SocksError
+SideSession = talk.Session Reply Endpoint SocksError
 
-abbrev pub viewAt : Stage → List ℕ → SideSession
-viewAt (Awaiting e) h = talk.waiting e h
-viewAt Open h = talk.ended (talk.done tt)
-viewAt (Failed x) h = talk.ended (talk.failed x)
+-- a stage with what it is bound to and what it holds
+abbrev pub sessionAt : Stage → Endpoint → List ℕ → SideSession
+sessionAt (Awaiting e) x h = talk.waiting e h
+sessionAt Open x h = talk.ended (talk.done x)
+sessionAt (Failed y) x h = talk.ended (talk.failed y)
+
+-- F-1: what a session holds once it is open are the bytes of its bound address
+abbrev pub viewAt : Stage → Bound → List ℕ → SideSession
+viewAt stage b h = sessionAt stage (endpoint (kindOf (b .kind) h) (b .port)) h
 
 abbrev pub stageOf : SideSession → Stage
 stageOf (talk.waiting e h) = Awaiting e
 stageOf (talk.ended (talk.done x)) = Open
 stageOf (talk.ended (talk.failed x)) = Failed x
 
+abbrev pub holdsOf : SideSession → List ℕ
+holdsOf (talk.waiting e h) = h
+holdsOf (talk.ended (talk.done x)) = bytesIn (x .address)
+holdsOf (talk.ended (talk.failed x)) = []
+
+-- the address's kind and port, as they were unless it is open
+abbrev pub boundAfter : SideSession → Bound → Bound
+boundAfter (talk.waiting e h) b = b
+boundAfter (talk.ended (talk.done x)) b = boundOf x
+boundAfter (talk.ended (talk.failed x)) b = b
+
 abbrev pub SideFed : Type 0
-SideFed = Fed Reply Unit SocksError
+SideFed = Fed Reply Endpoint SocksError
 
 -- how many replies may still come
 abbrev pub rank : Stage → ℕ

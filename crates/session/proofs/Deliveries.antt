@@ -16,6 +16,7 @@ use Rattle.protocol.specs.declared.SocksError.the-variants.{ShortOutput, Unexpe
 use Rattle.protocol.specs.declared.Answer.the-variants.{Accepted, Refused}
 use Rattle.protocol.specs.declared.Outcome.the-variants as Out
 use lib.Dec.{leb}
+use Rattle.protocol.specs.declared.Bound.{Bound}
 use Rattle.protocol.specs.Client.{firstRoom, room, talkAt, client}
 use Rattle.wire.specs.Written.{overwrite}
 use Rattle.wire.proofs.Parts.{take-min}
@@ -23,7 +24,7 @@ use Rattle.sending.specs.declared.Lengths.{Lengths}
 use Rattle.sending.specs.declared.Requests.{Requests}
 use Rattle.sending.specs.declared.Stage.{Stage}
 use Rattle.sending.specs.declared.Stage.the-variants.{Awaiting, Open, Failed}
-use Rattle.sending.specs.Stages.{SideFed, viewAt, stageOf, rank}
+use Rattle.sending.specs.Stages.{SideFed, viewAt, rank}
 use Rattle.sending.specs.Parts.{part, firstOf}
 use Rattle.sending.specs.Due.{stillDue}
 use Rattle.sending.proofs.Stages.{awaits}
@@ -46,13 +47,13 @@ take-least n l h = rw (← h) (take-min n l)
 
 -- ---- which way a delivery goes
 
-is-over : (stage : Stage) (h : List ℕ) → rank stage ≡ 0 → isOver (viewAt stage h) ≡ true
-is-over (Awaiting e) h z = absurd (awaits e z)
-is-over Open h z = refl
-is-over (Failed x) h z = refl
+is-over : (stage : Stage) (b : Bound) (h : List ℕ) → rank stage ≡ 0 → isOver (viewAt stage b h) ≡ true
+is-over (Awaiting e) b h z = absurd (awaits e z)
+is-over Open b h z = refl
+is-over (Failed x) b h z = refl
 
-waits-on : {stage : Stage} {e : Reply} (h : List ℕ) → stage ≡ Awaiting e → isOver (viewAt stage h) ≡ false
-waits-on h q = rw q
+waits-on : {stage : Stage} {e : Reply} (b : Bound) (h : List ℕ) → stage ≡ Awaiting e → isOver (viewAt stage b h) ≡ false
+waits-on b h q = rw q
 
 takes-none : (s : Session) (piece out : List ℕ) → length piece ≡ 0 → takes s piece out ≡ record { answer = Accepted; session = s; used = 0; sent = 0; output = out }
 takes-none s [] out z = refl
@@ -61,11 +62,6 @@ takes-none s (b ∷ bs) out z = absurd (omega arith)
 takes-more : (s : Session) (piece out : List ℕ) → (length piece ≡ 0 → ⊥) → takes s piece out ≡ moves s (onward (sideOf s) (view s) piece) out
 takes-more s [] out h = absurd (h refl)
 takes-more s (b ∷ bs) out h = refl
-
-stage-back : (stage : Stage) (rest : List ℕ) → stageOf (viewAt stage rest) ≡ stage
-stage-back (Awaiting e) rest = refl
-stage-back Open rest = refl
-stage-back (Failed x) rest = refl
 
 -- what may become due fits the output lent
 still-room : (e : Reply) → stillDue (Awaiting e) ≤ room e
@@ -76,50 +72,49 @@ still-room AuthenticationRes = omega arith
 still-room ProxyRes = omega arith
 still-room Response = omega arith
 
-module _ (g : Bool) (held : ℕ) (l : Lengths) (hold piece : List ℕ) (lent : ℕ) where
-  pub receives-settled : (stage : Stage) → rank stage ≡ 0 → {r : Received} → r ≡ unchanged (Refused Settled) stage held → Receives stage g held l hold piece lent r hold
+module _ (g : Bool) (held : ℕ) (l : Lengths) (hold piece : List ℕ) (lent : ℕ) (x : Bound) where
+  pub receives-settled : (stage : Stage) → rank stage ≡ 0 → {r : Received} → r ≡ unchanged (Refused Settled) stage held x → Receives stage g held l hold piece lent x r hold
   unfolding deliver
-  receives-settled stage z e = rw e (record { calls = λ b out h. rw (is-over stage (take held hold) z); within = zero-le; fits = zero-le; inside = zero-le })
+  receives-settled stage z e = rw e (record { calls = λ b out h. rw (is-over stage x (take held hold) z); within = zero-le; fits = zero-le; inside = zero-le })
 
   module _ (e : Reply) {r : Received} where
-    pub receives-unstarted : g ≡ false → r ≡ unchanged (Refused OutOfOrder) (Awaiting e) held → Receives (Awaiting e) g held l hold piece lent r hold
+    pub receives-unstarted : g ≡ false → r ≡ unchanged (Refused OutOfOrder) (Awaiting e) held x → Receives (Awaiting e) g held l hold piece lent x r hold
     unfolding deliver
     receives-unstarted f q = rw (f, q) (record { calls = λ b out k. refl; within = zero-le; fits = zero-le; inside = zero-le })
 
-    pub receives-short : g ≡ true → lent < room e → r ≡ unchanged (Refused ShortOutput) (Awaiting e) held → Receives (Awaiting e) g held l hold piece lent r hold
+    pub receives-short : g ≡ true → lent < room e → r ≡ unchanged (Refused ShortOutput) (Awaiting e) held x → Receives (Awaiting e) g held l hold piece lent x r hold
     unfolding deliver
     receives-short t h q = rw (t, q) (record { calls = λ b out k. rw (k, lt-leb (room e) lent h); within = zero-le; fits = zero-le; inside = zero-le })
 
-    pub receives-none : g ≡ true → room e ≤ lent → length piece ≡ 0 → r ≡ unchanged Accepted (Awaiting e) held → Receives (Awaiting e) g held l hold piece lent r hold
+    pub receives-none : g ≡ true → room e ≤ lent → length piece ≡ 0 → r ≡ unchanged Accepted (Awaiting e) held x → Receives (Awaiting e) g held l hold piece lent x r hold
     unfolding deliver
     receives-none t h z q =
         rw (t, q)
-        (record { calls = λ b out k. rw (k, le-leb (room e) lent h) (takes-none (sessionOf (Awaiting e) true held hold l b) piece out z); within = zero-le; fits = zero-le; inside = zero-le })
+        (record { calls = λ b out k. rw (k, le-leb (room e) lent h) (takes-none (sessionOf (Awaiting e) true held hold x l b) piece out z); within = zero-le; fits = zero-le; inside = zero-le })
 
   -- a piece taken behind held bytes
-  module _ (e : Reply) {h : List ℕ} (q : h ≡ take held hold) {t : Taken} {hold′ : List ℕ} (w : Takes l e h piece hold t hold′) where
-    moves-as : (b out : List ℕ) → moves (sessionOf (Awaiting e) true held hold l b) (feed (client (keptIn l b)) (talkAt (keptIn l b) e) (take held hold ++ piece)) out ≡ sending Accepted true t hold′ l b out
+  module _ (e : Reply) {h : List ℕ} (q : h ≡ take held hold) {t : Taken} {hold′ : List ℕ} (w : Takes l e h piece hold x t hold′) where
+    moves-as : (b out : List ℕ) → moves (sessionOf (Awaiting e) true held hold x l b) (feed (client (keptIn l b)) (talkAt (keptIn l b) e) (take held hold ++ piece)) out ≡ sending Accepted true t hold′ l b out
     moves-as b out =
         let k = w .keeps in
-        let fed = ap (λ (x : List ℕ). feed (client (keptIn l b)) (talkAt (keptIn l b) e) (x ++ piece)) (sym q) ∙ w .whole b in
-        let rest = drop (w .place) (h ++ piece) in
-        let used : w .place + length (heldBy (viewAt (w .stage) rest)) - length (take held hold) ≡ t .used = rw (← q) (sym (k .uses)) in
-        ap (λ (f : SideFed). moves (sessionOf (Awaiting e) true held hold l b) f out) fed
+        let fed = ap (λ (y : List ℕ). feed (client (keptIn l b)) (talkAt (keptIn l b) e) (y ++ piece)) (sym q) ∙ w .whole b in
+        let used : w .place + length (heldBy (w .session)) - length (take held hold) ≡ t .used = rw (← q) (sym (k .uses)) in
+        ap (λ (f : SideFed). moves (sessionOf (Awaiting e) true held hold x l b) f out) fed
         ∙ (λ i. record {
           answer = Accepted;
-          session = record { stage = (stage-back (w .stage) rest ∙ sym (k .staged)) i; started = true; held = sym (k .counts) i; hold = sym (k .holds) i; requests = record { lengths = l; bytes = b } };
+          session = record { stage = sym (k .staged) i; started = true; held = sym (k .counts) i; hold = sym (k .holds) i; bound = sym (k .bounds) i; requests = record { lengths = l; bytes = b } };
           used = used i;
           sent = length (part b (t .from) (t .sent));
           output = part b (t .from) (t .sent) ++ drop (length (part b (t .from) (t .sent))) out;
         })
 
-    pub receives-taken : g ≡ true → room e ≤ lent → (length piece ≡ 0 → ⊥) → Receives (Awaiting e) g held l hold piece lent (record { answer = Accepted; taken = t }) hold′
+    pub receives-taken : g ≡ true → room e ≤ lent → (length piece ≡ 0 → ⊥) → Receives (Awaiting e) g held l hold piece lent x (record { answer = Accepted; taken = t }) hold′
     unfolding deliver onward
     receives-taken j h z =
         let s = w .few in
         rw j
         (record {
-          calls = λ b out g. rw (g, le-leb (room e) lent h) (takes-more (sessionOf (Awaiting e) true held hold l b) piece out z ∙ moves-as b out);
+          calls = λ b out g. rw (g, le-leb (room e) lent h) (takes-more (sessionOf (Awaiting e) true held hold x l b) piece out z ∙ moves-as b out);
           within = w .keeps .within;
           fits = omega (arith, s, still-room e);
           inside = w .inside;
@@ -138,10 +133,10 @@ part-long : (b : List ℕ) (from n : ℕ) → length b ≡ 1024 → from + n ≤
 part-long b from n l h = length-take n (drop from b) ∙ rw (length-drop from b) (omega arith)
 
 module _ (s : Session) (piece out : List ℕ) {r : Received} {hold′ out′ : List ℕ} where
-  pub delivers : Receives (s .stage) (s .started) (s .held) (s .requests .lengths) (s .hold) piece (length out) r hold′ → length (s .requests .bytes) ≡ 1024
+  pub delivers : Receives (s .stage) (s .started) (s .held) (s .requests .lengths) (s .hold) piece (length out) (s .bound) r hold′ → length (s .requests .bytes) ≡ 1024
       → out′ ≡ overwrite out 0 (part (s .requests .bytes) (r .taken .from) (r .taken .sent))
       → Delivers (deliver s piece out) piece
-      (record { answer = r .answer; used = r .taken .used; sent = r .taken .sent; session = sessionOf (r .taken .stage) (s .started) (r .taken .held) hold′ (s .requests .lengths) (s .requests .bytes) }) out′
+      (record { answer = r .answer; used = r .taken .used; sent = r .taken .sent; session = sessionOf (r .taken .stage) (s .started) (r .taken .held) hold′ (r .taken .bound) (s .requests .lengths) (s .requests .bytes) }) out′
   unfolding overwrite
   delivers v long w =
       let t = r .taken in
@@ -150,7 +145,7 @@ module _ (s : Session) (piece out : List ℕ) {r : Received} {hold′ out′ : L
       let c = v .calls (s .requests .bytes) out refl in
       let o : out′ ≡ p ++ drop (length p) out = w ∙ ap (λ (k : ℕ). p ++ drop k out) (zero-add (length p)) in
       record {
-        returned = (λ i. record { answer = r .answer; used = t .used; sent = sym n i; session = sessionOf (t .stage) (s .started) (t .held) hold′ (s .requests .lengths) (s .requests .bytes) }) ∙ ap delivered (sym c);
+        returned = (λ i. record { answer = r .answer; used = t .used; sent = sym n i; session = sessionOf (t .stage) (s .started) (t .held) hold′ (t .bound) (s .requests .lengths) (s .requests .bytes) }) ∙ ap delivered (sym c);
         output = o ∙ ap (λ (a : Call). a .output) (sym c);
         inside = rw o (omega (arith, length-append p (drop (length p) out)));
         within = v .within;
@@ -163,15 +158,15 @@ startCall s r out =
     let sent = part (s .requests .bytes) 0 (r .sent) in
     record {
       answer = r .answer;
-      session = record { stage = s .stage; started = r .started; held = s .held; hold = s .hold; requests = s .requests };
+      session = record { stage = s .stage; started = r .started; held = s .held; hold = s .hold; bound = s .bound; requests = s .requests };
       used = 0;
       sent = length sent;
       output = sent ++ drop (length sent) out;
     }
 
-module _ (held : ℕ) (hold : List ℕ) (q : Requests) (out : List ℕ) where
+module _ (held : ℕ) (hold : List ℕ) (x : Bound) (q : Requests) (out : List ℕ) where
   abbrev at : Stage → Bool → Session
-  at stage g = record { stage = stage; started = g; held = held; hold = hold; requests = q }
+  at stage g = record { stage = stage; started = g; held = held; hold = hold; bound = x; requests = q }
 
   start-call : (stage : Stage) (g : Bool) → startCall (at stage g) (startAt stage g (q .lengths) (length out)) out ≡ start (at stage g) out
   unfolding start
@@ -184,7 +179,7 @@ module _ (held : ℕ) (hold : List ℕ) (q : Requests) (out : List ℕ) where
       go true = ap (λ (first : List ℕ). starts (at (Awaiting e) false) first out) (sym (first-part e q))
       go false = refl
   start-call Open g = refl
-  start-call (Failed x) g = refl
+  start-call (Failed y) g = refl
 
 module _ (s : Session) (out : List ℕ) {r : Starting} (q : r ≡ startAt (s .stage) (s .started) (s .requests .lengths) (length out)) (long : length (s .requests .bytes) ≡ 1024) where
   pub start-kept : r .sent ≤ length (s .requests .bytes)
@@ -195,15 +190,15 @@ module _ (s : Session) (out : List ℕ) {r : Starting} (q : r ≡ startAt (s .st
 
   pub starts-as : {out′ : List ℕ} → out′ ≡ overwrite out 0 (take (r .sent) (s .requests .bytes))
       → Starts (start s out)
-      (record { answer = r .answer; sent = r .sent; session = record { stage = s .stage; started = r .started; held = s .held; hold = s .hold; requests = s .requests } }) out′
+      (record { answer = r .answer; sent = r .sent; session = record { stage = s .stage; started = r .started; held = s .held; hold = s .hold; bound = s .bound; requests = s .requests } }) out′
   unfolding overwrite
   starts-as {out′} w =
       let p = part (s .requests .bytes) 0 (r .sent) in
       let n : length p ≡ r .sent = length-take-le (r .sent) (s .requests .bytes) start-kept in
-      let c = ap (λ (x : Starting). startCall s x out) q ∙ start-call (s .held) (s .hold) (s .requests) out (s .stage) (s .started) in
+      let c = ap (λ (x : Starting). startCall s x out) q ∙ start-call (s .held) (s .hold) (s .bound) (s .requests) out (s .stage) (s .started) in
       let o : out′ ≡ p ++ drop (length p) out = w ∙ ap (λ (k : ℕ). p ++ drop k out) (zero-add (length p)) in
       record {
-        returned = (λ i. record { answer = r .answer; sent = sym n i; session = record { stage = s .stage; started = r .started; held = s .held; hold = s .hold; requests = s .requests } }) ∙ ap started c;
+        returned = (λ i. record { answer = r .answer; sent = sym n i; session = record { stage = s .stage; started = r .started; held = s .held; hold = s .hold; bound = s .bound; requests = s .requests } }) ∙ ap started c;
         output = o ∙ ap (λ (a : Call). a .output) c;
         inside = rw o (omega (arith, length-append p (drop (length p) out)));
       }
@@ -213,11 +208,11 @@ module _ (s : Session) (out : List ℕ) {r : Starting} (q : r ≡ startAt (s .st
 module _ (s : Session) where
   pub end-settled : rank (s .stage) ≡ 0 → record { answer = Refused Settled; session = s } ≡ endedBy (end s)
   unfolding end
-  end-settled z = rw (is-over (s .stage) (heldBytes s) z)
+  end-settled z = rw (is-over (s .stage) (s .bound) (heldBytes s) z)
 
   pub end-waits : {w : Reply} → s .stage ≡ Awaiting w → endAwaiting (s .started) s ≡ endedBy (end s)
   unfolding end
-  end-waits q = rw (waits-on (heldBytes s) q) (go (s .started))
+  end-waits q = rw (waits-on (s .bound) (heldBytes s) q) (go (s .started))
     where
       go : (g : Bool)
           → endAwaiting g s

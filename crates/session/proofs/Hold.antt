@@ -13,7 +13,8 @@ use Rattle.session.specs.declared.Session.{Session}
 use Rattle.session.specs.Session.{sideOf, view, roomAt}
 use Rattle.session.specs.Calls.{refusal, takes, deliver}
 use Rattle.session.specs.Hold.{HoldStays}
-use Rattle.talk.specs.Talk.{onward, heldBy, isOver}
+use Rattle.sending.specs.Stages.{holdsOf}
+use Rattle.talk.specs.Talk.{onward, isOver}
 
 behind : (h hold : List ℕ) (i : ℕ) → length h ≤ i → byte (h ++ drop (length h) hold) i ≡ byte hold i
 behind h hold i l =
@@ -23,7 +24,7 @@ behind h hold i l =
 module _ (s : Session) (piece out : List ℕ) where
   taken : (p : List ℕ) → HoldStays s (takes s p out .session)
   taken [] = λ i h. refl
-  taken (b ∷ bs) = behind (heldBy (onward (sideOf s) (view s) (b ∷ bs) .session)) (s .hold)
+  taken (b ∷ bs) = behind (holdsOf (onward (sideOf s) (view s) (b ∷ bs) .session)) (s .hold)
 
   pub hold-stays : HoldStays s (deliver s piece out .session)
   unfolding deliver

@@ -11,6 +11,8 @@ use Rattle.protocol.specs.declared.SocksError.the-variants.{ShortOutput, Unexpe
 use Rattle.protocol.specs.declared.Answer as code
 use Rattle.protocol.specs.declared.Answer.the-variants.{Accepted, Refused}
 use Rattle.protocol.specs.Numbers.{answerNumber, outcomeNumber}
+use Rattle.protocol.specs.Bytes.{padded}
+use Rattle.protocol.specs.Bound.{unbound, boundOf}
 use Rattle.protocol.specs.Requests.{negotiationReq, authenticationReq, proxyReq, request}
 use Rattle.protocol.specs.Opening.{V5, V4, check5, check4, Opening, v5, v4, noAuth, userPass, opening5, opening4, firstReply}
 use Rattle.sending.specs.declared.Stage.{Stage}
@@ -56,10 +58,6 @@ endedBy c = record { answer = c .answer; session = c .session }
 
 -- ---- Preparing (F-7)
 
--- bytes at the start of an array of zeros
-abbrev pub padded : ℕ → List ℕ → List ℕ
-padded n bs = bs ++ replicate (n - length bs) 0
-
 -- requests one behind the other: the first, an AuthenticationReq and a ProxyReq
 abbrev pub keptWith : Bool → List ℕ → List ℕ → List ℕ → Requests
 keptWith o q a p =
@@ -79,7 +77,7 @@ keptBy (v4 d port) = keptWith false (request d port) [] []
 
 -- a session that is not started and holds nothing
 abbrev pub fresh : Stage → Requests → Session
-fresh s q = record { stage = s; started = false; held = 0; hold = replicate 261 0; requests = q }
+fresh s q = record { stage = s; started = false; held = 0; hold = replicate 261 0; bound = boundOf unbound; requests = q }
 
 -- prepared: the requests are kept, and the first reply is waited for
 abbrev pub preparedFor : Opening → Session
@@ -106,7 +104,7 @@ abbrev pub starts : Session → List ℕ → List ℕ → Call
 starts s first out =
     record {
       answer = Accepted;
-      session = record { stage = s .stage; started = true; held = s .held; hold = s .hold; requests = s .requests };
+      session = record { stage = s .stage; started = true; held = s .held; hold = s .hold; bound = s .bound; requests = s .requests };
       used = 0;
       sent = length first;
       output = first ++ drop (length first) out;

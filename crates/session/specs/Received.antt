@@ -5,6 +5,7 @@ use mathlib.Core.Bool.{Bool}
 use mathlib.Core.List.{List, _++_}
 use lib.ListN.{length, drop}
 use Rattle.protocol.specs.declared.Answer.{Answer}
+use Rattle.protocol.specs.declared.Bound.{Bound}
 use Rattle.sending.specs.declared.Lengths.{Lengths}
 use Rattle.sending.specs.declared.Stage.{Stage}
 use Rattle.sending.specs.Parts.{part}
@@ -13,25 +14,25 @@ use Rattle.session.specs.declared.Received.{Received}
 use Rattle.session.specs.Calls.{Call, deliver}
 use Rattle.turns.specs.declared.Taken.{Taken}
 
-abbrev pub unchanged : Answer → Stage → ℕ → Received
-unchanged a s n = record { answer = a; taken = record { stage = s; held = n; used = 0; from = 0; sent = 0 } }
+abbrev pub unchanged : Answer → Stage → ℕ → Bound → Received
+unchanged a s n x = record { answer = a; taken = record { stage = s; held = n; used = 0; from = 0; sent = 0; bound = x } }
 
-abbrev pub sessionOf : Stage → Bool → ℕ → List ℕ → Lengths → List ℕ → Session
-sessionOf s g n hold l b = record { stage = s; started = g; held = n; hold = hold; requests = record { lengths = l; bytes = b } }
+abbrev pub sessionOf : Stage → Bool → ℕ → List ℕ → Bound → Lengths → List ℕ → Session
+sessionOf s g n hold x l b = record { stage = s; started = g; held = n; hold = hold; bound = x; requests = record { lengths = l; bytes = b } }
 
 -- the call: what became due, sent
 abbrev pub sending : Answer → Bool → Taken → List ℕ → Lengths → List ℕ → List ℕ → Call
 sending a g t hold l b out =
     record {
       answer = a;
-      session = sessionOf (t .stage) g (t .held) hold l b;
+      session = sessionOf (t .stage) g (t .held) hold (t .bound) l b;
       used = t .used;
       sent = length (part b (t .from) (t .sent));
       output = part b (t .from) (t .sent) ++ drop (length (part b (t .from) (t .sent))) out;
     }
 
-pub record Receives (stage : Stage) (started : Bool) (held : ℕ) (l : Lengths) (hold piece : List ℕ) (room : ℕ) (r : Received) (hold′ : List ℕ) : Type 0 where
-  pub calls : (b out : List ℕ) → length out ≡ room → deliver (sessionOf stage started held hold l b) piece out ≡ sending (r .answer) started (r .taken) hold′ l b out
+pub record Receives (stage : Stage) (started : Bool) (held : ℕ) (l : Lengths) (hold piece : List ℕ) (room : ℕ) (bound : Bound) (r : Received) (hold′ : List ℕ) : Type 0 where
+  pub calls : (b out : List ℕ) → length out ≡ room → deliver (sessionOf stage started held hold bound l b) piece out ≡ sending (r .answer) started (r .taken) hold′ l b out
   pub within : r .taken .used ≤ length piece
   pub fits : r .taken .sent ≤ room
   pub inside : r .taken .from + r .taken .sent ≤ 778

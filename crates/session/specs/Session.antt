@@ -1,14 +1,20 @@
 -- The session as the calls hold it, and the session of a handshake's side that it stands for.
 use Prim.Native.Nat.{ℕ}
+use mathlib.Core.Bool.{Bool, true, false, cond}
 use mathlib.Core.List.{List, [], _++_}
 use lib.ListN.{length, take, drop}
 use Rattle.protocol.specs.declared.Outcome.{Outcome}
+use Rattle.protocol.specs.declared.Address.{Address}
+use Rattle.protocol.specs.declared.SocksError.the-variants.{NotOpen}
+use Rattle.protocol.specs.Bound.{addressOf}
 use Rattle.protocol.specs.Client as client
 use Rattle.sending.specs.declared.Stage.{Stage}
 use Rattle.sending.specs.declared.Stage.the-variants.{Awaiting, Open, Failed}
 use Rattle.session.specs.declared.Session.{Session}
 use Rattle.talk.specs.Talk as talk
-use Rattle.sending.specs.Stages.{SideSession, viewAt, stageOf}
+use Rattle.sending.specs.Stages.{SideSession, viewAt, stageOf, holdsOf, boundAfter}
+use Rattle.bound_text.specs.Text.{boundText}
+use Rattle.bound_text.specs.Written.{TextCall, unwritten, writeText}
 use Rattle.sending.specs.declared.Requests.{Requests}
 use Rattle.sending.specs.Parts.{requestsOf, firstOf}
 
@@ -20,7 +26,7 @@ abbrev pub heldBytes : Session → List ℕ
 heldBytes s = take (s .held) (s .hold)
 
 abbrev pub view : Session → SideSession
-view s = viewAt (s .stage) (heldBytes s)
+view s = viewAt (s .stage) (s .bound) (heldBytes s)
 
 -- a session made to stand for another: of the hold only the first bytes change, as many as are held
 abbrev pub packed : Session → SideSession → Session
@@ -28,13 +34,27 @@ packed s m =
     record {
       stage = stageOf m;
       started = s .started;
-      held = length (talk.heldBy m);
-      hold = talk.heldBy m ++ drop (length (talk.heldBy m)) (s .hold);
+      held = length (holdsOf m);
+      hold = holdsOf m ++ drop (length (holdsOf m)) (s .hold);
+      bound = boundAfter m (s .bound);
       requests = s .requests;
     }
 
 abbrev pub outcome : Session → Outcome
 outcome s = client.outcomeOf (view s)
+
+-- F-1: the bound address, as it is handed out; of a session that is not open IPv4 zeros and port 0
+abbrev pub bound : Session → Address
+bound s = addressOf (client.boundIn (view s))
+
+abbrev pub isOpen : Stage → Bool
+isOpen (Awaiting e) = false
+isOpen Open = true
+isOpen (Failed x) = false
+
+-- its text: 17 if the session is not open, then 18 if the buffer is shorter than the text
+unfoldable pub writeBound : Session → List ℕ → TextCall
+writeBound s buffer = cond (isOpen (s .stage)) (writeText (boundText (bound s)) buffer) (unwritten NotOpen buffer)
 
 -- F-7: the output that a start must lend, and what it sends; a waiting session's version is told by the reply that it waits for
 abbrev pub firstRoomAt : Stage → ℕ

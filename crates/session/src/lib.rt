@@ -7,11 +7,16 @@ ghost use Rattle.protocol.specs.Client.{room};
 ghost use Rattle.wire.specs.Written.{overwrite};
 ghost use Rattle.sending.specs.Parts.{part};
 ghost use Rattle.sending.specs.declared.Stage.the-variants as Stage;
-ghost use Rattle.session.specs.Session.{outcome};
+ghost use Rattle.session.specs.Session.{outcome, bound, isOpen, writeBound};
+ghost use Rattle.bound_text.specs.Written.{Writes};
 ghost use Rattle.session.specs.Calls.{Starts, start, Delivers, deliver, endedBy, end};
 ghost use Rattle.session.specs.Ends.{endAwaiting};
 ghost use Rattle.session.specs.Received.{unchanged, Receives};
+use bound_text::Written;
+use bound_text::put_bound;
+use protocol::Address;
 use protocol::Answer;
+use protocol::Bound;
 use protocol::Outcome;
 use protocol::Reply;
 use protocol::SocksError;
@@ -23,13 +28,14 @@ use wire::copy;
 use wire::least;
 
 // What matters when. Prepared, which is awaiting and not started: `requests`, of which a start sends the first. Awaiting and started: the
-// first `held` bytes of `hold`, which are the undecided rest of a reply, and those of `requests` that are still due. Open or failed: the
-// stage alone. The requests never change.
+// first `held` bytes of `hold`, which are the undecided rest of a reply, and those of `requests` that are still due. Open: the first `held`
+// bytes of `hold`, which are the bound address, and `bound`, its kind and port. Failed: the stage alone. The requests never change.
 pub struct Session {
     pub stage: Stage,
     pub started: bool,
     pub held: usize,
     pub hold: [u8; 261],
+    pub bound: Bound,
     pub requests: Requests,
 }
 
@@ -75,8 +81,8 @@ struct Received {
 }
 
 // Nothing was taken.
-fn unchanged(answer: Answer, stage: Stage, held: usize) -> Received
-    ensures { λ r. ⌜ r ≡ unchanged answer stage held ⌝ }
+fn unchanged(answer: Answer, stage: Stage, held: usize, bound: Bound) -> Received
+    ensures { λ r. ⌜ r ≡ unchanged answer stage held bound ⌝ }
 {
     Received {
         answer: answer,
@@ -86,6 +92,7 @@ fn unchanged(answer: Answer, stage: Stage, held: usize) -> Received
             used: 0,
             from: 0,
             sent: 0,
+            bound: bound,
         },
     }
 }
@@ -99,23 +106,24 @@ fn receive_awaiting(
     hold: &mut [u8],
     piece: &[u8],
     room: usize,
+    bound: Bound,
 ) -> Received
     requires { ⌜ length (now hold) ≡ 261 ⌝ }
-    ensures { λ r. ⌜ Receives (Stage.Awaiting reply) started held lengths (now (hold .entry)) (now (piece .entry)) room r (now (hold .exit)) ⌝ }
+    ensures { λ r. ⌜ Receives (Stage.Awaiting reply) started held lengths (now (hold .entry)) (now (piece .entry)) room bound r (now (hold .exit)) ⌝ }
 {
     let stage = Stage::Awaiting(reply);
     if !started {
-        return unchanged(Answer::Refused(SocksError::OutOfOrder), stage, held);
+        return unchanged(Answer::Refused(SocksError::OutOfOrder), stage, held, bound);
     }
     if room < room_of(reply) {
-        return unchanged(Answer::Refused(SocksError::ShortOutput), stage, held);
+        return unchanged(Answer::Refused(SocksError::ShortOutput), stage, held, bound);
     }
     if piece.len() == 0 {
-        return unchanged(Answer::Accepted, stage, held);
+        return unchanged(Answer::Accepted, stage, held, bound);
     }
     Received {
         answer: Answer::Accepted,
-        taken: turns::take(lengths, reply, hold, least(held, 261), piece),
+        taken: turns::take(lengths, reply, hold, least(held, 261), piece, bound),
     }
 }
 
@@ -127,9 +135,10 @@ fn receive(
     hold: &mut [u8],
     piece: &[u8],
     room: usize,
+    bound: Bound,
 ) -> Received
     requires { ⌜ length (now hold) ≡ 261 ⌝ }
-    ensures { λ r. ⌜ Receives stage started held lengths (now (hold .entry)) (now (piece .entry)) room r (now (hold .exit)) ⌝ }
+    ensures { λ r. ⌜ Receives stage started held lengths (now (hold .entry)) (now (piece .entry)) room bound r (now (hold .exit)) ⌝ }
 {
     match stage {
         Stage::Awaiting(reply) => receive_awaiting(
@@ -140,9 +149,10 @@ fn receive(
             hold,
             piece,
             room,
+            bound,
         ),
-        Stage::Open => unchanged(Answer::Refused(SocksError::Settled), stage, held),
-        Stage::Failed(error) => unchanged(Answer::Refused(SocksError::Settled), stage, held),
+        Stage::Open => unchanged(Answer::Refused(SocksError::Settled), stage, held, bound),
+        Stage::Failed(error) => unchanged(Answer::Refused(SocksError::Settled), stage, held, bound),
     }
 }
 
@@ -157,6 +167,16 @@ fn send(requests: Requests, from: usize, n: usize, out: &mut [u8])
     let bytes = requests.bytes;
     let end = from + n;
     copy(out, 0, &bytes[from..end]);
+}
+
+fn is_open(stage: Stage) -> bool
+    ensures { λ r. ⌜ r ≡ isOpen stage ⌝ }
+{
+    match stage {
+        Stage::Awaiting(reply) => false,
+        Stage::Open => true,
+        Stage::Failed(error) => false,
+    }
 }
 
 impl Session {
@@ -174,6 +194,7 @@ impl Session {
         let n = start.sent;
         copy(out, 0, &bytes[..n]);
         let hold = self.hold;
+        let bound = self.bound;
         Started {
             answer: answer,
             sent: n,
@@ -182,6 +203,7 @@ impl Session {
                 started: start.started,
                 held: self.held,
                 hold: hold,
+                bound: bound,
                 requests: requests,
             },
         }
@@ -196,6 +218,7 @@ impl Session {
         let requests = self.requests;
         let lengths = requests.lengths;
         let mut hold = self.hold;
+        let bound = self.bound;
         let received = receive(
             stage,
             self.started,
@@ -204,11 +227,13 @@ impl Session {
             &mut hold,
             piece,
             out.len(),
+            bound,
         );
         let answer = received.answer;
         let taken = received.taken;
         send(requests, taken.from, taken.sent, out);
         let next = taken.stage;
+        let after = taken.bound;
         Delivered {
             answer: answer,
             used: taken.used,
@@ -218,6 +243,7 @@ impl Session {
                 started: self.started,
                 held: taken.held,
                 hold: hold,
+                bound: after,
                 requests: requests,
             },
         }
@@ -225,15 +251,17 @@ impl Session {
 
     // Settling changes the stage and the number of held bytes, and nothing else.
     fn settled(self, stage: Stage) -> Session
-        ensures { λ r. ⌜ r ≡ record { stage = stage; started = self .started; held = 0; hold = self .hold; requests = self .requests } ⌝ }
+        ensures { λ r. ⌜ r ≡ record { stage = stage; started = self .started; held = 0; hold = self .hold; bound = self .bound; requests = self .requests } ⌝ }
     {
         let hold = self.hold;
+        let bound = self.bound;
         let requests = self.requests;
         Session {
             stage: stage,
             started: self.started,
             held: 0,
             hold: hold,
+            bound: bound,
             requests: requests,
         }
     }
@@ -283,5 +311,33 @@ impl Session {
             Stage::Open => Outcome::Open,
             Stage::Failed(error) => Outcome::Failed(error),
         }
+    }
+
+    // The address and port that the proxy's last reply named; of a session that is not open IPv4 zeros and port 0.
+    pub fn bound(self) -> Address
+        ensures { λ r. ⌜ r ≡ bound self ⌝ }
+    {
+        let stage = self.stage;
+        if !is_open(stage) {
+            return bound::unbound();
+        }
+        let hold = self.hold;
+        let kept = self.bound;
+        let n = least(self.held, 261);
+        bound::address(kept, &hold[..n])
+    }
+
+    // The bound address as text, at the buffer's start. Refused if the session is not open, or the buffer is shorter than the text.
+    pub fn bound_text(self, text: &mut [u8]) -> Written
+        ensures { λ r. ⌜ Writes (writeBound self (now (text .entry))) r (now (text .exit)) ⌝ }
+    {
+        let stage = self.stage;
+        if !is_open(stage) {
+            return Written {
+                answer: Answer::Refused(SocksError::NotOpen),
+                len: 0,
+            };
+        }
+        put_bound(self.bound(), text)
     }
 }

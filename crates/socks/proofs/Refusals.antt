@@ -3,11 +3,11 @@ use Prim.Native.Nat.{ℕ}
 use native.Mathlib.Omega.{arith}
 use mathlib.Core.Path.{_≡_, refl, ap, sym, _∙_}
 use mathlib.Core.Bool.{Bool, true, false, cond, not}
-use mathlib.Core.List.{List, [], _∷_}
-use lib.ListN.{length}
+use mathlib.Core.List.{List, [], _∷_, _++_}
+use lib.ListN.{length, drop}
 use lib.Dec.{leb}
 use Rattle.protocol.specs.declared.SocksError.{SocksError}
-use Rattle.protocol.specs.declared.SocksError.the-variants.{ShortOutput, UnexpectedEof, Settled, OutOfOrder}
+use Rattle.protocol.specs.declared.SocksError.the-variants.{ShortOutput, UnexpectedEof, Settled, NotOpen, ShortText, OutOfOrder}
 use Rattle.protocol.specs.declared.Answer.{Answer}
 use Rattle.protocol.specs.declared.Answer.the-variants.{Accepted, Refused}
 use Rattle.protocol.specs.declared.Outcome.the-variants.{Waiting}
@@ -20,8 +20,10 @@ use Rattle.protocol.proofs.Limits.{answer-not-11, outcome-not-11}
 use Rattle.protocol.proofs.Openings.{check5-just, check4-just, lookup5, lookup4}
 use Rattle.session.specs.declared.Session.{Session}
 use Rattle.session.specs.declared.Prepared.{Prepared}
-use Rattle.session.specs.Session.{view, packed, outcome, firstRoomAt, firstAt, roomAt}
+use Rattle.session.specs.Session.{view, packed, outcome, bound, isOpen, writeBound, firstRoomAt, firstAt, roomAt}
 use Rattle.session.specs.Calls.{Call, Without, refusal, emptySession, preparedBy, prepare5, prepare4, starts, start, takes, deliver, end}
+use Rattle.bound_text.specs.Text.{boundText}
+use Rattle.bound_text.specs.Written.{TextCall, unwritten}
 use Rattle.talk.specs.Talk.{failed, ended, isOver}
 
 pub clash : {e : SocksError} → Accepted ≡ Refused e → ⊥
@@ -133,6 +135,32 @@ module _ (s : Session) where
   pub end-number : answerNumber (end s .answer) ≡ cond (isOver (view s)) 16 (cond (not (s .started)) 22 0)
   unfolding end
   end-number = numbered s [] ending refl (isOver (view s)) (not (s .started)) true
+
+-- ---- F-1, a bound address's text: 17 for a session that is not open, then 18 for a buffer shorter than the text; nothing is written then
+
+module _ (s : Session) (buffer : List ℕ) where
+  abbrev texted : Bool → Bool → TextCall
+  texted a b =
+      cond a (cond b (record { answer = Accepted; len = length (boundText (bound s)); buffer = boundText (bound s) ++ drop (length (boundText (bound s))) buffer }) (unwritten ShortText buffer))
+      (unwritten NotOpen buffer)
+
+  pub text-refuses : (e : SocksError) → writeBound s buffer .answer ≡ Refused e → writeBound s buffer ≡ unwritten e buffer
+  unfolding writeBound
+  text-refuses e = go (isOpen (s .stage)) (leb (length (boundText (bound s))) (length buffer))
+    where
+      go : (a b : Bool) → texted a b .answer ≡ Refused e → texted a b ≡ unwritten e buffer
+      go true true p = absurd (clash p)
+      go true false p = rw (same-error p)
+      go false b p = rw (same-error p)
+
+  pub text-number : answerNumber (writeBound s buffer .answer) ≡ cond (not (isOpen (s .stage))) 17 (cond (leb (length (boundText (bound s))) (length buffer)) 0 18)
+  unfolding writeBound
+  text-number = go (isOpen (s .stage)) (leb (length (boundText (bound s))) (length buffer))
+    where
+      go : (a b : Bool) → answerNumber (texted a b .answer) ≡ cond (not a) 17 (cond b 0 18)
+      go true true = refl
+      go true false = refl
+      go false b = refl
 
 -- F-4: 11 is not met by any preparing, start, delivery or end, for any arguments and any session value
 without-11 : (c : Call) → Without 11 c

@@ -4,11 +4,15 @@ use native.Mathlib.Omega.{arith}
 use mathlib.Core.Path.{_≡_, refl, ap, sym, subst, _∙_}
 use mathlib.Core.Bool.{Bool, true, false, cond, not, true≢false}
 use mathlib.Core.List.{List, [], _∷_, _++_, List·Memᴰ·head, List·Memᴰ·tail}
-use lib.ListN.{length, drop}
+use lib.ListN.{length, take, drop}
 use lib.Seq.{take-append-seam}
 use lib.Dec.{leb}
 use Rattle.protocol.specs.declared.SocksError.the-variants.{ShortOutput, Settled, OutOfOrder}
+use Rattle.protocol.specs.declared.Bound.{Bound}
 use Rattle.protocol.specs.Bytes.{Bytes}
+use Rattle.protocol.specs.AddressReading.{Destination, ipv4, ipv6, domain}
+use Rattle.protocol.specs.Requests.{kindOf}
+use Rattle.protocol.specs.Bound.{endpoint, kindIn, bytesIn, addressOf}
 use Rattle.protocol.specs.Opening.{Opening, deliveryRoom}
 use Rattle.protocol.specs.Machine.{Machine, machine, used}
 use Rattle.protocol.specs.Client as client
@@ -22,7 +26,7 @@ use Rattle.sending.specs.declared.Stage.{Stage}
 use Rattle.sending.specs.declared.Stage.the-variants.{Awaiting, Open as OpenStage, Failed}
 use Rattle.sending.specs.Stages.{SideSession, viewAt}
 use Rattle.sending.specs.Parts.{requestsOf}
-use Rattle.session.specs.Session.{heldBytes, view, packed, outcome, roomAt}
+use Rattle.session.specs.Session.{heldBytes, view, packed, outcome, bound, roomAt}
 use Rattle.session.specs.Calls.{refusal, takes, deliver, receiver}
 use Rattle.socks.specs.Demand3.{BytePieces, Alike, tunnelOf, joinedOf, Demand3}
 use Rattle.talk.specs.Talk as talk
@@ -34,7 +38,12 @@ use Rattle.talk.proofs.Follow as follow
 
 pub view-packed : (s : Session) (m : SideSession) → view (packed s m) ≡ m
 view-packed s (talk.waiting e h) = rw take-append-seam
-view-packed s (talk.ended (talk.done tt)) = refl
+view-packed s (talk.ended (talk.done x)) = ap (λ (d : Destination). talk.ended (talk.done (endpoint d (x .port)))) (kind-back (x .address))
+  where
+    kind-back : (d : Destination) → kindOf (kindIn d) (take (length (bytesIn d)) (bytesIn d ++ drop (length (bytesIn d)) (s .hold))) ≡ d
+    kind-back (ipv4 bs) = ap ipv4 (take-append-seam bs _)
+    kind-back (ipv6 bs) = ap ipv6 (take-append-seam bs _)
+    kind-back (domain bs) = ap domain (take-append-seam bs _)
 view-packed s (talk.ended (talk.failed e)) = refl
 
 -- ---- one delivery
@@ -80,16 +89,16 @@ module _ (r : ℕ) (s : Session) (g : s .started ≡ true) (w : Waits r (view s)
       go false = record { session = itself; used = refl; sent = refl }
 
   -- a waiting session asks for what the tunnel asks for
-  asks-same : (stage : Stage) (h : List ℕ) → Waits r (viewAt stage h) → talk.isOver (viewAt stage h) ≡ false → roomAt stage ≡ r
-  asks-same (Awaiting e) h v z = v
-  asks-same OpenStage h v z = absurd (true≢false z)
-  asks-same (Failed x) h v z = absurd (true≢false z)
+  asks-same : (stage : Stage) (b : Bound) (h : List ℕ) → Waits r (viewAt stage b h) → talk.isOver (viewAt stage b h) ≡ false → roomAt stage ≡ r
+  asks-same (Awaiting e) b h v z = v
+  asks-same OpenStage b h v z = absurd (true≢false z)
+  asks-same (Failed x) b h v z = absurd (true≢false z)
 
   alike : (d : Delivery) → like.Alike (Stands r k) (answerTo (receiver r) s d) (answerTo (side.receiver (client.client k) r) (view s) d)
   unfolding deliver side.deliver
   alike d =
       answers-alike (talk.isOver (view s)) (s .started) (leb (roomAt (s .stage)) (length (d .output))) (leb r (length (d .output))) g
-      (λ z. ap (λ (n : ℕ). leb n (length (d .output))) (asks-same (s .stage) (heldBytes s) w z)) (d .piece) (d .output)
+      (λ z. ap (λ (n : ℕ). leb n (length (d .output))) (asks-same (s .stage) (s .bound) (heldBytes s) w z)) (d .piece) (d .output)
 
 step : (r : ℕ) (k : client.Kept) (s : Session) (m : SideSession) → Stands r k s m → (d : Delivery)
     → like.Alike (Stands r k) (answerTo (receiver r) s d) (answerTo (side.receiver (client.client k) r) m d)
@@ -107,6 +116,7 @@ pub record Begun (o : Opening) (s : Session) (sent : List ℕ) : Type 0 where
 
 record Fed (o : Opening) (s : Session) (sent : List ℕ) (ds : List Delivery) : Type 0 where
   outcomes : outcome (tunnelOf o s sent ds .session) ≡ machine o (joinedOf o ds) .outcome
+  bounds : bound (tunnelOf o s sent ds .session) ≡ addressOf (machine o (joinedOf o ds) .bound)
   sends : tunnelOf o s sent ds .sent ≡ machine o (joinedOf o ds) .sent
   count : tunnelOf o s sent ds .count ≡ used o (joinedOf o ds)
   rest : tunnelOf o s sent ds .rest ≡ drop (used o (joinedOf o ds)) (joinedOf o ds)
@@ -124,6 +134,7 @@ fed o s sent b ds =
     let c : tunnel (receiver r) s sent ds .count ≡ used o bs = w .count ∙ p .count ∙ rw (← j) (sym (used-feed o bs)) in
     record {
       outcomes = ap (λ (n : SideSession). client.outcomeOf n) (w .session .seen ∙ p .session) ∙ rw (← j) (sym (ap (λ (x : Machine). x .outcome) m));
+      bounds = ap (λ (n : SideSession). addressOf (client.boundIn n)) (w .session .seen ∙ p .session) ∙ rw (← j) (sym (ap (λ (x : Machine). addressOf (x .bound)) m));
       sends = rw (b .sends, w .sent) (p .sent ∙ rw (← j) (sym (ap (λ (x : Machine). x .sent) m)));
       count = c;
       rest = w .rest ∙ p .rest ∙ rw (← j, ← w .count, c);
@@ -150,11 +161,13 @@ demand3 o s sent b ds pieces-are =
       rests-are = rw (f .count) (f .rest);
       sent-as = f .sends;
       outcome-as = f .outcomes;
+      bound-as = f .bounds;
       count-as = f .count;
       alike = λ ds′ e.
           let g = fed o s sent b ds′ in
           record {
             outcomes = g .outcomes ∙ ap (λ (l : List ℕ). machine o l .outcome) e ∙ sym (f .outcomes);
+            bounds = g .bounds ∙ ap (λ (l : List ℕ). addressOf (machine o l .bound)) e ∙ sym (f .bounds);
             sent = g .sends ∙ ap (λ (l : List ℕ). machine o l .sent) e ∙ sym (f .sends);
             count = g .count ∙ ap (used o) e ∙ sym (f .count);
             rest = g .rest ∙ ap (λ (l : List ℕ). drop (used o l) l) e ∙ sym (f .rest);

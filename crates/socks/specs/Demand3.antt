@@ -7,11 +7,12 @@ use lib.ListN.{take, drop}
 use Rattle.protocol.specs.declared.Answer.the-variants.{Accepted}
 use Rattle.protocol.specs.declared.Outcome.the-variants.{Open}
 use Rattle.protocol.specs.Bytes.{Bytes}
+use Rattle.protocol.specs.Bound.{addressOf}
 use Rattle.protocol.specs.Opening.{Opening, deliveryRoom}
 use Rattle.protocol.specs.Machine.{machine, used}
 use Rattle.protocol.specs.Grammar.{Replied, JustOne}
 use Rattle.session.specs.declared.Session.{Session}
-use Rattle.session.specs.Session.{outcome}
+use Rattle.session.specs.Session.{outcome, bound}
 use Rattle.session.specs.declared.Prepared.{Prepared}
 use Rattle.session.specs.Calls.{start, receiver}
 use Rattle.talk.specs.Tunnel.{Delivery, joined, Tunnel, tunnel}
@@ -20,9 +21,10 @@ use Rattle.talk.specs.Tunnel.{Delivery, joined, Tunnel, tunnel}
 abbrev pub BytePieces : List Delivery → Type 0
 BytePieces ds = (d : Delivery) → List·Memᴰ d ds → Bytes (d .piece)
 
--- what two tunnels have alike: outcome with status, sent bytes, total count and rests
+-- what two tunnels have alike: outcome with status, bound address, sent bytes, total count and rests
 pub record Alike (t u : Tunnel Session) : Type 0 where
   pub outcomes : outcome (t .session) ≡ outcome (u .session)
+  pub bounds : bound (t .session) ≡ bound (u .session)
   pub sent : t .sent ≡ u .sent
   pub count : t .count ≡ u .count
   pub rest : t .rest ≡ u .rest
@@ -39,7 +41,9 @@ pub record Demand3 (o : Opening) (s : Session) (sent : List ℕ) (ds : List Deli
   -- open exactly when the joined bytes begin with a reply sequence of the opening's grammar
   pub opens-just : outcome (tunnelOf o s sent ds .session) ≡ Open ↔ Replied o (joinedOf o ds)
   -- if open, just one beginning is such a sequence, and the total count is its length
-  pub just-one : outcome (tunnelOf o s sent ds .session) ≡ Open → JustOne o (joinedOf o ds) (tunnelOf o s sent ds .count)
+  pub just-one : outcome (tunnelOf o s sent ds .session) ≡ Open → JustOne o (joinedOf o ds) (tunnelOf o s sent ds .count) (machine o (joinedOf o ds) .bound)
+  -- F-1: open or not, the bound address is the plain machine's; if open, it is the one that this beginning names, by just-one
+  pub bound-as : bound (tunnelOf o s sent ds .session) ≡ addressOf (machine o (joinedOf o ds) .bound)
   -- open or not, the rests joined are exactly the joined bytes after the total count
   pub rests-are : tunnelOf o s sent ds .rest ≡ drop (tunnelOf o s sent ds .count) (joinedOf o ds)
   -- all sent bytes, the outcome with its status and the total count equal the plain machine's

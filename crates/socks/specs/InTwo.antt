@@ -11,6 +11,7 @@ use Rattle.protocol.specs.declared.SocksError.{SocksError}
 use Rattle.protocol.specs.declared.SocksError.the-variants.{ShortOutput}
 use Rattle.protocol.specs.Numbers.{answerNumber}
 use Rattle.protocol.specs.Opening.{V5, V4, Condition, _↣_, Answers, refuse, check5, check4, Opening, opening5, opening4, firstReply}
+use Rattle.protocol.specs.Bound.{unbound, boundOf}
 use Rattle.protocol.specs.Client.{side, begun}
 use Rattle.sending.specs.declared.Stage.the-variants.{Awaiting}
 use Rattle.sending.specs.Stages.{SideFed}
@@ -24,7 +25,7 @@ use Rattle.talk.specs.Talk.{feed}
 
 -- started, with nothing held
 abbrev pub startedFor : Opening → Session
-startedFor o = record { stage = Awaiting (firstReply o); started = true; held = 0; hold = replicate 261 0; requests = keptBy o }
+startedFor o = record { stage = Awaiting (firstReply o); started = true; held = 0; hold = replicate 261 0; bound = boundOf unbound; requests = keptBy o }
 
 -- an accepted opening: its talk, fed with no byte; what is sent stands at the output's start
 abbrev pub begins : Opening → SideFed → List ℕ → Call

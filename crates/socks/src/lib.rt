@@ -3,6 +3,7 @@ pub mod errors;
 pub mod v4;
 pub mod v5;
 
+pub use bound_text::Written;
 pub use sending::Lengths;
 pub use sending::Requests;
 pub use sending::Stage;

@@ -7,49 +7,61 @@ use mathlib.Core.List.{List, _++_, append-assoc}
 use lib.ListN.{length, take, drop, length-append, length-drop, length-take}
 use Rattle.protocol.specs.declared.Reply.{Reply}
 use Rattle.protocol.specs.declared.Reply.the-variants.{NegotiationRes, AuthenticationRes, ProxyRes, Response}
+use Rattle.protocol.specs.declared.SocksError.{SocksError}
+use Rattle.protocol.specs.declared.Bound.{Bound}
+use Rattle.protocol.specs.Bound.{Endpoint, unbound}
 use Rattle.wire.specs.Written.{overwrite}
 use Rattle.reading.specs.Fewest.{fewest}
 use Rattle.reading.proofs.Reading.{too-few}
 use Rattle.sending.specs.declared.Lengths.{Lengths}
 use Rattle.sending.specs.declared.Stage.{Stage}
 use Rattle.sending.specs.declared.Stage.the-variants.{Awaiting, Open, Failed}
-use Rattle.sending.specs.Stages.{rank}
+use Rattle.sending.specs.Stages.{sessionAt}
 use Rattle.sending.specs.Due.{dueFrom}
 use Rattle.sending.proofs.Sending.{due-inside}
-use Rattle.sending.proofs.Stages.{awaits}
+use Rattle.bound.specs.declared.Kept.{Kept}
+use Rattle.bound.specs.Named.{Binds}
 use Rattle.turns.specs.declared.Taken.{Taken}
-use Rattle.turns.specs.Turns.{keptIn, Rests, Worked, Keeps, Takes}
+use Rattle.turns.specs.Turns.{keptIn, Rests, namedAt, Ready, Worked, Keeps, Opens, Takes}
 use Rattle.turns.proofs.Steps.{stage-rests}
+use Rattle.talk.specs.Talk.{waiting}
 
 unread : (h p : List ℕ) (place : ℕ) → length (drop place (h ++ p)) ≡ length h + length p - place
 unread h p place = length-drop place (h ++ p) ∙ ap (λ (n : ℕ). n - place) (length-append h p)
 
-module _ (place : ℕ) (h p hold : List ℕ) {n from sent : ℕ} (long : length h ≡ n) (inside : place ≤ n + length p) {r : Taken} where
-  pub keeps-waits : {hold′ : List ℕ} {stage : Stage} {e : Reply} → stage ≡ Awaiting e → r ≡ record { stage = stage; held = n + length p - place; used = length p; from = from; sent = sent } → hold′ ≡ overwrite hold 0 (drop place (h ++ p))
-      → Keeps stage place h p hold r hold′
+module _ (place : ℕ) (h p hold : List ℕ) {n from sent : ℕ} {bound : Bound} (long : length h ≡ n) (inside : place ≤ n + length p) (x : Endpoint) {r : Taken} {hold′ : List ℕ} {stage : Stage} where
+  pub keeps-waits : {e : Reply} → stage ≡ Awaiting e → r ≡ record { stage = stage; held = n + length p - place; used = length p; from = from; sent = sent; bound = bound } → hold′ ≡ overwrite hold 0 (drop place (h ++ p))
+      → Keeps (sessionAt stage x (drop place (h ++ p))) place h p hold bound r hold′
   unfolding overwrite
-  keeps-waits {hold′} {stage} {e} s q w =
+  keeps-waits {e} s q w =
       let u = unread h p place in
       rw (q, s)
       (record {
         staged = refl;
+        bounds = refl;
         counts = sym (u ∙ ap (λ (k : ℕ). k + length p - place) long);
         holds = w ∙ ap (λ (k : ℕ). drop place (h ++ p) ++ drop k hold) (zero-add (length (drop place (h ++ p))));
         uses = omega arith;
         within = le-refl (length p);
       })
 
-  pub keeps-ended : (stage : Stage) → rank stage ≡ 0 → r ≡ record { stage = stage; held = 0; used = place - n; from = from; sent = sent } → Keeps stage place h p hold r hold
-  keeps-ended (Awaiting e) z q = absurd (awaits e z)
-  keeps-ended Open z q = rw q (record { staged = refl; counts = refl; holds = refl; uses = omega arith; within = omega arith })
-  keeps-ended (Failed x) z q = rw q (record { staged = refl; counts = refl; holds = refl; uses = omega arith; within = omega arith })
+  pub keeps-failed : {y : SocksError} → stage ≡ Failed y → r ≡ record { stage = stage; held = 0; used = place - n; from = from; sent = sent; bound = bound } → hold′ ≡ hold
+      → Keeps (sessionAt stage x (drop place (h ++ p))) place h p hold bound r hold′
+  keeps-failed s q w = rw (q, s) (record { staged = refl; bounds = refl; counts = refl; holds = w; uses = omega arith; within = omega arith })
+
+  pub keeps-open : stage ≡ Open → Opens x stage (place - n) from sent hold r hold′ → Keeps (sessionAt stage x (drop place (h ++ p))) place h p hold bound r hold′
+  keeps-open s w = rw (w .is, s) (record { staged = refl; bounds = refl; counts = refl; holds = w .holds; uses = omega arith; within = omega arith })
 
 -- what is unread of a stage that waits fits the hold
 pub rests-few : {stage : Stage} {e : Reply} (rest : List ℕ) → stage ≡ Awaiting e → Rests stage rest → length rest ≤ 261
 rests-few rest q r = (rw q at r) .1
 
-pub used-is : (stage : Stage) (from sent : ℕ) {a b : ℕ} → a ≡ b → _≡_ {A = Taken} (record { stage = stage; held = 0; used = a; from = from; sent = sent }) (record { stage = stage; held = 0; used = b; from = from; sent = sent })
-used-is stage from sent q = λ i. record { stage = stage; held = 0; used = q i; from = from; sent = sent }
+pub ready-open : {stage : Stage} (e : Reply) (begin : ℕ) (bytes : List ℕ) → stage ≡ Open → Ready stage e begin bytes → Ready Open e begin bytes
+ready-open e begin bytes q r = rw q at r
+
+pub used-is : (stage : Stage) (from sent : ℕ) (bound : Bound) {a b : ℕ} → a ≡ b
+    → _≡_ {A = Taken} (record { stage = stage; held = 0; used = a; from = from; sent = sent; bound = bound }) (record { stage = stage; held = 0; used = b; from = from; sent = sent; bound = bound })
+used-is stage from sent bound q = λ i. record { stage = stage; held = 0; used = q i; from = from; sent = sent; bound = bound }
 
 pub held-long : (n : ℕ) (hold : List ℕ) → length hold ≡ 261 → n ≤ 261 → length (take n hold) ≡ n
 held-long n hold l h = length-take n hold ∙ omega arith
@@ -59,24 +71,22 @@ module _ (place n : ℕ) (hold p : List ℕ) (long : length hold ≡ 261) (few :
   pub unread-few : length (drop place (take n hold ++ p)) ≤ 261 → n + length p ≤ place + 261
   unread-few h = let m = held-long n hold long few in let u = unread (take n hold) p place in omega arith
 
-  module _ (inside : place ≤ n + length p) {from sent : ℕ} {r : Taken} where
-    pub kept-waits : {hold′ : List ℕ} {stage : Stage} {e : Reply} → stage ≡ Awaiting e → r ≡ record { stage = stage; held = n + length p - place; used = length p; from = from; sent = sent }
-        → hold′ ≡ overwrite hold 0 (drop place (take n hold ++ p)) → Keeps stage place (take n hold) p hold r hold′ × (r .from ≡ from) × (r .sent ≡ sent)
-    kept-waits s q w = (keeps-waits place (take n hold) p hold (held-long n hold long few) inside s q w, ap (λ (t : Taken). t .from) q, ap (λ (t : Taken). t .sent) q)
+pub begin-inside : (n : ℕ) (hold p : List ℕ) → length hold ≡ 261 → n ≤ 261 → {begin : ℕ} → begin ≤ length (take n hold ++ p) → begin ≤ n + length p
+begin-inside n hold p l h i = omega (arith, length-append (take n hold) p, held-long n hold l h)
 
-    pub kept-ended : (stage : Stage) → rank stage ≡ 0 → r ≡ record { stage = stage; held = 0; used = place - n; from = from; sent = sent }
-        → Keeps stage place (take n hold) p hold r hold × (r .from ≡ from) × (r .sent ≡ sent)
-    kept-ended stage z q = (keeps-ended place (take n hold) p hold (held-long n hold long few) inside stage z q, ap (λ (t : Taken). t .from) q, ap (λ (t : Taken). t .sent) q)
+pub opens-as : {x : Endpoint} (stage : Stage) (from sent : ℕ) {hold hold′ : List ℕ} {k : Kept} {used used′ : ℕ} → Binds x hold k hold′ → used ≡ used′
+    → Opens x stage used′ from sent hold (record { stage = stage; held = k .len; used = used; from = from; sent = sent; bound = k .bound }) hold′
+opens-as stage from sent b q = record { is = λ i. record { stage = stage; held = b .long i; used = q i; from = from; sent = sent; bound = b .bound i }; holds = b .holds }
 
 -- a piece worked through
-pub takes-worked : (l : Lengths) (e : Reply) (h p hold : List ℕ) (stage : Stage) (place sent : ℕ) {from : ℕ} {r : Taken} {hold′ : List ℕ} → Worked l e (h ++ p) stage place sent → from ≡ dueFrom l e
-    → Keeps stage place h p hold r hold′ × (r .from ≡ from) × (r .sent ≡ sent) → Takes l e h p hold r hold′
-takes-worked l e h p hold stage place sent w f k =
+pub takes-worked : (l : Lengths) (e : Reply) (h p hold : List ℕ) (bound : Bound) (stage : Stage) (begin place sent : ℕ) {from : ℕ} {r : Taken} {hold′ : List ℕ} → Worked l e (h ++ p) stage begin place sent → from ≡ dueFrom l e
+    → Keeps (sessionAt stage (namedAt e begin (h ++ p)) (drop place (h ++ p))) place h p hold bound r hold′ × (r .from ≡ from) × (r .sent ≡ sent) → Takes l e h p hold bound r hold′
+takes-worked l e h p hold bound stage begin place sent w f k =
     let g = k .1 ∙ f in
     let n = k .2 in
     let s = w .few in
     record {
-      stage = stage;
+      session = sessionAt stage (namedAt e begin (h ++ p)) (drop place (h ++ p));
       place = place;
       whole = λ b. rw (g, n) (w .whole b);
       keeps = k .0;
@@ -98,17 +108,17 @@ from-start n hold p h =
     ap (λ (k : ℕ). (take n hold ++ p) ++ drop k hold) (zero-add _ ∙ length-append (take n hold) p ∙ ap (λ (k : ℕ). k + length p) m) ∙ append-assoc (take n hold) p (drop (n + length p) hold)
 
 -- too few bytes to decide anything
-pub takes-few : (l : Lengths) (e : Reply) (p hold : List ℕ) {n : ℕ} {r : Taken} {hold′ : List ℕ} → n ≤ length hold → length hold ≡ 261 → n + length p < fewest e
-    → r ≡ record { stage = Awaiting e; held = n + length p; used = length p; from = 0; sent = 0 } → hold′ ≡ overwrite hold n p → Takes l e (take n hold) p hold r hold′
-takes-few l e p hold {n} {r} {hold′} h long f q w =
+pub takes-few : (l : Lengths) (e : Reply) (p hold : List ℕ) (bound : Bound) {n : ℕ} {r : Taken} {hold′ : List ℕ} → n ≤ length hold → length hold ≡ 261 → n + length p < fewest e
+    → r ≡ record { stage = Awaiting e; held = n + length p; used = length p; from = 0; sent = 0; bound = bound } → hold′ ≡ overwrite hold n p → Takes l e (take n hold) p hold bound r hold′
+takes-few l e p hold bound {n} {r} {hold′} h long f q w =
     let m : length (take n hold) ≡ n = length-take n hold ∙ omega arith in
     let y : n + length p ≡ n + length p - 0 = omega arith in
     let z : length (take n hold ++ p) < fewest e = omega (arith, length-append (take n hold) p) in
     record {
-      stage = Awaiting e;
+      session = waiting e (take n hold ++ p);
       place = 0;
-      whole = λ b. rw q (stage-rests (keptIn l b) (Awaiting e) (take n hold ++ p) (too-few e (take n hold ++ p) z, omega (arith, fewest-small e)));
-      keeps = keeps-waits 0 (take n hold) p hold m zero-le refl (q ∙ ap (λ (k : ℕ). record { stage = Awaiting e; held = k; used = length p; from = 0; sent = 0 }) y) (w ∙ sym (from-start n hold p h));
+      whole = λ b. rw q (stage-rests (keptIn l b) (Awaiting e) unbound (take n hold ++ p) (too-few e (take n hold ++ p) z, omega (arith, fewest-small e)));
+      keeps = keeps-waits 0 (take n hold) p hold m zero-le unbound refl (q ∙ ap (λ (k : ℕ). record { stage = Awaiting e; held = k; used = length p; from = 0; sent = 0; bound = bound }) y) (w ∙ sym (from-start n hold p h));
       few = rw q zero-le;
       inside = rw q zero-le;
     }

@@ -11,16 +11,19 @@ use Rattle.protocol.specs.declared.Reply.the-variants.{NegotiationRes, Authenti
 use Rattle.protocol.specs.declared.SocksError.{SocksError}
 use Rattle.protocol.specs.declared.Verdict.the-variants.{Good, Bad}
 use Rattle.protocol.specs.declared.Decision.the-variants.{Undecided, Decided}
+use Rattle.protocol.specs.Bound.{Endpoint, boundBy}
 use Rattle.protocol.specs.Replies.{decide}
+use Rattle.protocol.proofs.Named.{bound-first}
 use Rattle.protocol.specs.Client.{Kept, due, talkAt, client}
 use Rattle.sending.specs.declared.Lengths.{Lengths}
 use Rattle.sending.specs.declared.Stage.{Stage}
 use Rattle.sending.specs.declared.Stage.the-variants.{Awaiting, Open, Failed}
-use Rattle.sending.specs.Stages.{viewAt, rank}
+use Rattle.sending.specs.Stages.{SideFed, sessionAt, rank}
 use Rattle.sending.specs.Parts.{part, negotiationSize, authenticationSize, proxySize}
 use Rattle.sending.specs.Due.{unlessGone, dueAfter, dueFrom}
+use Rattle.bound.specs.Named.{lastOf}
 use Rattle.turns.specs.Turns.{keptIn, onStage, Rests}
-use Rattle.talk.specs.Talk.{failed, ended, waiting, unmoved, sending, moving, feed}
+use Rattle.talk.specs.Talk.{done, failed, ended, waiting, unmoved, sending, moving, feed}
 
 -- ---- what a good reply makes due, the talk sends
 
@@ -36,38 +39,41 @@ module _ (c : Kept) (e : Reply) (bs b : List ℕ) where
   first-due true from n = refl
   first-due false from n = refl
 
+opened : (n : ℕ) {x y : Endpoint} → x ≡ y → _≡_ {A = SideFed} (moving n (unmoved (ended (done x)))) (moving n (unmoved (ended (done y))))
+opened n q = ap (λ (z : Endpoint). moving n (unmoved (ended (done z)))) q
+
 module _ (l : Lengths) (b : List ℕ) where
   -- a stage that waits, on bytes that decide its reply
-  pub stage-good : (e : Reply) (bs : List ℕ) (n : ℕ) → decide e bs ≡ Decided n Good
-      → onStage (keptIn l b) (Awaiting e) bs ≡ moving n (sending (part b (dueFrom l e) (dueAfter l e .len)) (onStage (keptIn l b) (dueAfter l e .stage) (drop n bs)))
+  pub stage-good : (e : Reply) (x : Endpoint) (bs : List ℕ) (n : ℕ) → decide e bs ≡ Decided n Good
+      → onStage (keptIn l b) (Awaiting e) x bs ≡ moving n (sending (part b (dueFrom l e) (dueAfter l e .len)) (onStage (keptIn l b) (dueAfter l e .stage) (boundBy (lastOf e) bs) (drop n bs)))
   unfolding feed
-  stage-good (NegotiationRes NoAuth) bs n q = rw q (ap (moving n) (part-due (keptIn l b) ProxyRes (drop n bs) b (l .optimistic) (negotiationSize l) (proxySize l) (authenticationSize l)))
-  stage-good (NegotiationRes UserPass) bs n q = rw q (ap (moving n) (first-due (keptIn l b) AuthenticationRes (drop n bs) b (l .optimistic) (negotiationSize l) (authenticationSize l)))
-  stage-good (NegotiationRes NoneAcceptable) bs n q = rw q
-  stage-good AuthenticationRes bs n q = rw q (ap (moving n) (part-due (keptIn l b) ProxyRes (drop n bs) b (l .optimistic) (negotiationSize l) (proxySize l) (authenticationSize l)))
-  stage-good ProxyRes bs n q = rw q
-  stage-good Response bs n q = rw q
+  stage-good (NegotiationRes NoAuth) x bs n q = rw q (ap (moving n) (part-due (keptIn l b) ProxyRes (drop n bs) b (l .optimistic) (negotiationSize l) (proxySize l) (authenticationSize l)))
+  stage-good (NegotiationRes UserPass) x bs n q = rw q (ap (moving n) (first-due (keptIn l b) AuthenticationRes (drop n bs) b (l .optimistic) (negotiationSize l) (authenticationSize l)))
+  stage-good (NegotiationRes NoneAcceptable) x bs n q = rw q
+  stage-good AuthenticationRes x bs n q = rw q (ap (moving n) (part-due (keptIn l b) ProxyRes (drop n bs) b (l .optimistic) (negotiationSize l) (proxySize l) (authenticationSize l)))
+  stage-good ProxyRes x bs n q = rw q (opened n (bound-first ProxyRes bs n q))
+  stage-good Response x bs n q = rw q (opened n (bound-first Response bs n q))
 
 module _ (c : Kept) where
-  pub stage-bad : (e : Reply) (bs : List ℕ) (n : ℕ) (x : SocksError) → decide e bs ≡ Decided n (Bad x) → onStage c (Awaiting e) bs ≡ moving n (unmoved (ended (failed x)))
+  pub stage-bad : (e : Reply) (bs : List ℕ) (n : ℕ) (x : SocksError) → decide e bs ≡ Decided n (Bad x) → (y : Endpoint) → onStage c (Awaiting e) y bs ≡ moving n (unmoved (ended (failed x)))
   unfolding feed
-  stage-bad (NegotiationRes m) bs n x q = rw q
-  stage-bad AuthenticationRes bs n x q = rw q
-  stage-bad ProxyRes bs n x q = rw q
-  stage-bad Response bs n x q = rw q
+  stage-bad (NegotiationRes m) bs n x q y = rw q
+  stage-bad AuthenticationRes bs n x q y = rw q
+  stage-bad ProxyRes bs n x q y = rw q
+  stage-bad Response bs n x q y = rw q
 
-  stage-waits : (e : Reply) (bs : List ℕ) → decide e bs ≡ Undecided → onStage c (Awaiting e) bs ≡ unmoved (waiting e bs)
+  stage-waits : (e : Reply) (x : Endpoint) (bs : List ℕ) → decide e bs ≡ Undecided → onStage c (Awaiting e) x bs ≡ unmoved (waiting e bs)
   unfolding feed
-  stage-waits (NegotiationRes m) bs q = rw q
-  stage-waits AuthenticationRes bs q = rw q
-  stage-waits ProxyRes bs q = rw q
-  stage-waits Response bs q = rw q
+  stage-waits (NegotiationRes m) x bs q = rw q
+  stage-waits AuthenticationRes x bs q = rw q
+  stage-waits ProxyRes x bs q = rw q
+  stage-waits Response x bs q = rw q
 
   -- where nothing is left to do, nothing is done
-  pub stage-rests : (stage : Stage) (bs : List ℕ) → Rests stage bs → onStage c stage bs ≡ unmoved (viewAt stage bs)
-  stage-rests (Awaiting e) bs r = stage-waits e bs (r .0)
-  stage-rests Open bs r = refl
-  stage-rests (Failed x) bs r = refl
+  pub stage-rests : (stage : Stage) (x : Endpoint) (bs : List ℕ) → Rests stage bs → onStage c stage x bs ≡ unmoved (sessionAt stage x bs)
+  stage-rests (Awaiting e) x bs r = stage-waits e x bs (r .0)
+  stage-rests Open x bs r = refl
+  stage-rests (Failed y) x bs r = refl
 
 -- ---- the loop ends
 

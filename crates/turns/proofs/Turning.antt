@@ -17,7 +17,9 @@ use Rattle.protocol.specs.declared.Verdict.the-variants.{Good, Bad}
 use Rattle.protocol.specs.declared.Decision.{Decision}
 use Rattle.protocol.specs.declared.Decision.the-variants.{Undecided, Decided}
 use Rattle.protocol.specs.Bytes.{byte}
+use Rattle.protocol.specs.Bound.{Endpoint, unbound, boundBy}
 use Rattle.protocol.specs.Replies.{decide}
+use Rattle.protocol.proofs.Named.{proxy-whole, response-whole}
 use Rattle.protocol.proofs.Replies.{decided-within, undecided-by}
 use Rattle.sending.specs.declared.Lengths.{Lengths}
 use Rattle.sending.specs.declared.Due.{Due}
@@ -30,8 +32,9 @@ use Rattle.reading.specs.Fewest.{fewest}
 use Rattle.reading.proofs.Reading.{too-few}
 use Rattle.sending.proofs.Sending.{still-after, part-on}
 use Rattle.sending.proofs.Stages.{awaits}
+use Rattle.bound.specs.Named.{lastOf, Whole}
 use Rattle.turns.specs.declared.Turn.{Turn}
-use Rattle.turns.specs.Turns.{keptIn, onStage, goesOn, Rests, Turns, Worked}
+use Rattle.turns.specs.Turns.{keptIn, onStage, goesOn, Rests, turnBegin, Turns, namedAt, Ready, Worked}
 use Rattle.turns.proofs.Steps.{stage-good, stage-bad, stage-rests, rank-falls}
 use Rattle.talk.specs.Talk.{sending, moving}
 use Rattle.talk.proofs.Feed.{same-fed}
@@ -111,93 +114,141 @@ sent-on b l from sent AuthenticationRes q = rw q (part-on b from sent _)
 sent-on b l from sent ProxyRes q = part-none b from sent (dueFrom l ProxyRes)
 sent-on b l from sent Response q = part-none b from sent (dueFrom l Response)
 
+-- ---- a handshake ends with one reply, wherever it stands
+
+abbrev Ends : Reply → Stage → Type 0
+Ends e₀ (Awaiting e) = lastOf e ≡ lastOf e₀
+Ends e₀ Open = Unit {0}
+Ends e₀ (Failed x) = Unit {0}
+
+ends-on : (l : Lengths) (e₀ e : Reply) → lastOf e ≡ lastOf e₀ → Ends e₀ (dueAfter l e .stage)
+ends-on l e₀ (NegotiationRes NoAuth) q = q
+ends-on l e₀ (NegotiationRes UserPass) q = q
+ends-on l e₀ (NegotiationRes NoneAcceptable) q = tt
+ends-on l e₀ AuthenticationRes q = q
+ends-on l e₀ ProxyRes q = tt
+ends-on l e₀ Response q = tt
+
+whole-last : (e₀ e : Reply) → lastOf e ≡ lastOf e₀ → (bs : List ℕ) → Whole (lastOf e) bs → Whole e₀ bs
+whole-last (NegotiationRes m) e q bs w = rw q at w
+whole-last AuthenticationRes e q bs w = rw q at w
+whole-last ProxyRes e q bs w = rw q at w
+whole-last Response e q bs w = rw q at w
+
 -- ---- the loop
 
-pub record Going (l : Lengths) (e₀ : Reply) (bytes : List ℕ) (stage : Stage) (place sent : ℕ) : Type 0 where
-  pub left : (b : List ℕ) → Left (onStage (keptIn l b) (Awaiting e₀) bytes) (part b (dueFrom l e₀) sent) place (onStage (keptIn l b) stage (drop place bytes))
+pub record Going (l : Lengths) (e₀ : Reply) (bytes : List ℕ) (stage : Stage) (begin place sent : ℕ) : Type 0 where
+  pub left : (b : List ℕ) → Left (onStage (keptIn l b) (Awaiting e₀) unbound bytes) (part b (dueFrom l e₀) sent) place (onStage (keptIn l b) stage (namedAt e₀ begin bytes) (drop place bytes))
   pub next : Next l (dueFrom l e₀ + sent) stage
+  pub ends : Ends e₀ stage
+  pub ready : Ready stage e₀ begin bytes
   pub room : sent + stillDue stage ≤ stillDue (Awaiting e₀)
   pub inside : place ≤ length bytes
 
-pub going-first : (l : Lengths) (e : Reply) (bytes : List ℕ) → Going l e bytes (Awaiting e) 0 0
+pub going-first : (l : Lengths) (e : Reply) (bytes : List ℕ) → Going l e bytes (Awaiting e) 0 0 0
 going-first l e bytes =
     record {
       left = λ b. record { session = refl; sends = refl; places = sym (zero-add _) };
       next = next-first l e;
+      ends = refl;
+      ready = tt;
       room = omega arith;
       inside = zero-le;
     }
 
-module _ {l : Lengths} {e₀ : Reply} {bytes : List ℕ} {place sent : ℕ} where
-  on-good : (e : Reply) (n : ℕ) → decide e (drop place bytes) ≡ Decided n Good → Going l e₀ bytes (Awaiting e) place sent → Going l e₀ bytes (dueAfter l e .stage) (place + n) (sent + dueAfter l e .len)
+ready-on : (l : Lengths) (e₀ : Reply) (bytes : List ℕ) (place : ℕ) (e : Reply) (n : ℕ) → decide e (drop place bytes) ≡ Decided n Good → lastOf e ≡ lastOf e₀ → place ≤ length bytes → Ready (dueAfter l e .stage) e₀ place bytes
+ready-on l e₀ bytes place (NegotiationRes NoAuth) n q s i = tt
+ready-on l e₀ bytes place (NegotiationRes UserPass) n q s i = tt
+ready-on l e₀ bytes place (NegotiationRes NoneAcceptable) n q s i = tt
+ready-on l e₀ bytes place AuthenticationRes n q s i = tt
+ready-on l e₀ bytes place ProxyRes n q s i = (i, whole-last e₀ ProxyRes s (drop place bytes) (proxy-whole (drop place bytes) n q))
+ready-on l e₀ bytes place Response n q s i = (i, whole-last e₀ Response s (drop place bytes) (response-whole (drop place bytes) n q))
+
+module _ {l : Lengths} {e₀ : Reply} {bytes : List ℕ} {begin place sent : ℕ} where
+  on-good : (e : Reply) (n : ℕ) → decide e (drop place bytes) ≡ Decided n Good → Going l e₀ bytes (Awaiting e) begin place sent → Going l e₀ bytes (dueAfter l e .stage) place (place + n) (sent + dueAfter l e .len)
   on-good e n q g =
       record {
-        left = λ b. rw (← sent-on b l (dueFrom l e₀) sent e (g .next), ← drop-drop n place bytes) (left-on (part b (dueFrom l e) (dueAfter l e .len)) n (g .left b) (stage-good l b e (drop place bytes) n q));
+        left = λ b.
+            rw (← sent-on b l (dueFrom l e₀) sent e (g .next), ← drop-drop n place bytes, ← g .ends)
+            (left-on (part b (dueFrom l e) (dueAfter l e .len)) n (g .left b) (stage-good l b e (namedAt e₀ begin bytes) (drop place bytes) n q));
         next = next-on l (dueFrom l e₀) sent e (g .next);
+        ends = ends-on l e₀ e (g .ends);
+        ready = ready-on l e₀ bytes place e n q (g .ends) (g .inside);
         room = omega (arith, still-after l e, g .room);
         inside = omega (arith, decided-within e (drop place bytes) n Good q, length-drop place bytes, g .inside);
       }
 
-  on-bad : (e : Reply) (n : ℕ) (x : SocksError) → decide e (drop place bytes) ≡ Decided n (Bad x) → Going l e₀ bytes (Awaiting e) place sent → Going l e₀ bytes (Failed x) (place + n) sent
+  on-bad : (e : Reply) (n : ℕ) (x : SocksError) → decide e (drop place bytes) ≡ Decided n (Bad x) → Going l e₀ bytes (Awaiting e) begin place sent → Going l e₀ bytes (Failed x) place (place + n) sent
   on-bad e n x q g =
       record {
-        left = λ b. rw (← append-nil (part b (dueFrom l e₀) sent)) (left-on [] n (g .left b) (stage-bad (keptIn l b) e (drop place bytes) n x q));
+        left = λ b. rw (← append-nil (part b (dueFrom l e₀) sent)) (left-on [] n (g .left b) (stage-bad (keptIn l b) e (drop place bytes) n x q (namedAt e₀ begin bytes)));
         next = tt;
+        ends = tt;
+        ready = tt;
         room = omega (arith, g .room);
         inside = omega (arith, decided-within e (drop place bytes) n (Bad x) q, length-drop place bytes, g .inside);
       }
 
-  module _ {stage′ : Stage} {place′ sent′ : ℕ} where
+  -- a stage that waits goes by its place alone
+  still : (e : Reply) (begin′ : ℕ) → Going l e₀ bytes (Awaiting e) begin place sent → Going l e₀ bytes (Awaiting e) begin′ place sent
+  still e begin′ g = record { left = g .left; next = g .next; ends = g .ends; ready = tt; room = g .room; inside = g .inside }
+
+  module _ {stage′ : Stage} {begin′ place′ sent′ : ℕ} where
     -- a turn that reads nothing
-    stays : (stage : Stage) → stage′ ≡ stage → place′ ≡ place + 0 → sent′ ≡ sent + 0 → Going l e₀ bytes stage place sent → Going l e₀ bytes stage′ place′ sent′
-    stays stage s p n g =
+    stays : (stage : Stage) → stage′ ≡ stage → begin′ ≡ begin → place′ ≡ place + 0 → sent′ ≡ sent + 0 → Going l e₀ bytes stage begin place sent → Going l e₀ bytes stage′ begin′ place′ sent′
+    stays stage s b p n g =
         let p′ : place′ ≡ place = p ∙ add-zero place in
         let n′ : sent′ ≡ sent = n ∙ add-zero sent in
-        rw (s, p′, n′) g
+        rw (s, b, p′, n′) g
 
-    pub going-on : (stage : Stage) {again : Bool} → Going l e₀ bytes stage place sent → Turns l stage bytes place sent stage′ place′ sent′ again → Going l e₀ bytes stage′ place′ sent′
+    pub going-on : (stage : Stage) {again : Bool} → Going l e₀ bytes stage begin place sent → Turns l stage bytes begin place sent stage′ begin′ place′ sent′ again → Going l e₀ bytes stage′ begin′ place′ sent′
     going-on (Awaiting e) g t = go (decide e (drop place bytes)) refl
       where
-        go : (d : Decision) → decide e (drop place bytes) ≡ d → Going l e₀ bytes stage′ place′ sent′
-        go Undecided q = stays (Awaiting e) (rw q at (t .staged)) (rw q at (t .placed)) (rw q at (t .counted)) g
+        go : (d : Decision) → decide e (drop place bytes) ≡ d → Going l e₀ bytes stage′ begin′ place′ sent′
+        go Undecided q =
+            let s : stage′ ≡ Awaiting e = rw q at (t .staged) in
+            let p : place′ ≡ place = rw (q, add-zero) at (t .placed) in
+            let c : sent′ ≡ sent = rw (q, add-zero) at (t .counted) in
+            rw (s, p, c) (still e begin′ g)
         go (Decided n Good) q =
             let s : stage′ ≡ dueAfter l e .stage = rw q at (t .staged) in
             let p : place′ ≡ place + n = rw q at (t .placed) in
             let c : sent′ ≡ sent + dueAfter l e .len = rw q at (t .counted) in
-            rw (s, p, c) (on-good e n q g)
+            rw (s, t .begun, p, c) (on-good e n q g)
         go (Decided n (Bad x)) q =
             let s : stage′ ≡ Failed x = rw q at (t .staged) in
             let p : place′ ≡ place + n = rw q at (t .placed) in
             let c : sent′ ≡ sent = rw (q, add-zero) at (t .counted) in
-            rw (s, p, c) (on-bad e n x q g)
-    going-on Open g t = stays Open (t .staged) (t .placed) (t .counted) g
-    going-on (Failed x) g t = stays (Failed x) (t .staged) (t .placed) (t .counted) g
+            rw (s, t .begun, p, c) (on-bad e n x q g)
+    going-on Open g t = stays Open (t .staged) (t .begun) (t .placed) (t .counted) g
+    going-on (Failed x) g t = stays (Failed x) (t .staged) (t .begun) (t .placed) (t .counted) g
 
 -- where the loop stands, from the stage that it began at
-pub record Loops (l : Lengths) (began : Stage) (bytes : List ℕ) (stage : Stage) (place sent left : ℕ) : Type 0 where
+pub record Loops (l : Lengths) (began : Stage) (bytes : List ℕ) (stage : Stage) (begin place sent left : ℕ) : Type 0 where
   pub reply : Reply
   pub first : began ≡ Awaiting reply
-  pub going : Going l reply bytes stage place sent
+  pub going : Going l reply bytes stage begin place sent
   pub ends : rank stage ≤ left
 
-pub loops-first : (l : Lengths) (e : Reply) (bytes : List ℕ) {t : Turn} → t ≡ record { stage = Awaiting e; place = 0; sent = 0; again = true } → Loops l (t .stage) bytes (t .stage) (t .place) (t .sent) 3
+pub loops-first : (l : Lengths) (e : Reply) (bytes : List ℕ) {t : Turn} → t ≡ record { stage = Awaiting e; begin = 0; place = 0; sent = 0; again = true } → Loops l (t .stage) bytes (t .stage) (t .begin) (t .place) (t .sent) 3
 loops-first l e bytes q = rw q (record { reply = e; first = refl; going = going-first l e bytes; ends = rank-most e })
 
 same-reply : {e f : Reply} → Awaiting e ≡ Awaiting f → e ≡ f
 same-reply p = cc
 
 -- the loop is left
-pub going-last : {l : Lengths} {e₀ : Reply} {bytes : List ℕ} {stage : Stage} {place sent : ℕ} → Going l e₀ bytes stage place sent → Rests stage (drop place bytes) → Worked l e₀ bytes stage place sent
-going-last {l} {e₀} {bytes} {stage} {place} {sent} g r =
+pub going-last : {l : Lengths} {e₀ : Reply} {bytes : List ℕ} {stage : Stage} {begin place sent : ℕ} → Going l e₀ bytes stage begin place sent → Rests stage (drop place bytes) → Worked l e₀ bytes stage begin place sent
+going-last {l} {e₀} {bytes} {stage} {begin} {place} {sent} g r =
     record {
       whole = λ b.
           let t = g .left b in
-          let s = stage-rests (keptIn l b) stage (drop place bytes) r in
+          let s = stage-rests (keptIn l b) stage (namedAt e₀ begin bytes) (drop place bytes) r in
           same-fed _ _ (t .session ∙ ap (λ (f : SideFed). f .session) s)
           (t .sends ∙ ap (λ (f : SideFed). part b (dueFrom l e₀) sent ++ f .sent) s ∙ append-nil _)
           (t .places ∙ ap (λ (f : SideFed). place + f .place) s ∙ add-zero place);
       inside = g .inside;
       rests = r;
+      ready = g .ready;
       few = omega (arith, g .room);
     }
 
@@ -211,21 +262,22 @@ settled (Failed x) rest z = tt
 
 -- ---- a turn as the code makes it
 
-pub turn-settled : (l : Lengths) (stage : Stage) (bytes : List ℕ) (place sent : ℕ) → rank stage ≡ 0 → Turns l stage bytes place sent stage place sent false
-turn-settled l (Awaiting e) bytes place sent z = absurd (awaits e z)
-turn-settled l Open bytes place sent z = record { staged = refl; counted = sym (add-zero sent); placed = sym (add-zero place); falls = λ a. absurd (clash (sym a)); rests = λ a. tt }
-turn-settled l (Failed x) bytes place sent z = record { staged = refl; counted = sym (add-zero sent); placed = sym (add-zero place); falls = λ a. absurd (clash (sym a)); rests = λ a. tt }
+pub turn-settled : (l : Lengths) (stage : Stage) (bytes : List ℕ) (begin place sent : ℕ) → rank stage ≡ 0 → Turns l stage bytes begin place sent stage begin place sent false
+turn-settled l (Awaiting e) bytes begin place sent z = absurd (awaits e z)
+turn-settled l Open bytes begin place sent z = record { staged = refl; begun = refl; counted = sym (add-zero sent); placed = sym (add-zero place); falls = λ a. absurd (clash (sym a)); rests = λ a. tt }
+turn-settled l (Failed x) bytes begin place sent z = record { staged = refl; begun = refl; counted = sym (add-zero sent); placed = sym (add-zero place); falls = λ a. absurd (clash (sym a)); rests = λ a. tt }
 
 pub judged-small : (l : Lengths) (e : Reply) (v : Verdict) {r : Due} → r ≡ dueJudged l e v → r .len ≤ 775
 judged-small l e Good q = rw q (omega (arith, still-after l e, still-small e))
 judged-small l e (Bad x) q = rw q zero-le
 
-module _ (l : Lengths) (e : Reply) (bytes : List ℕ) (place sent : ℕ) {d : Decision} (p : d ≡ decide e (drop place bytes)) where
-  pub turn-undecided : byte (drop place bytes) 4 ≤ 255 → d ≡ Undecided → Turns l (Awaiting e) bytes place sent (Awaiting e) place sent false
+module _ (l : Lengths) (e : Reply) (bytes : List ℕ) (begin place sent : ℕ) {d : Decision} (p : d ≡ decide e (drop place bytes)) where
+  pub turn-undecided : byte (drop place bytes) 4 ≤ 255 → d ≡ Undecided → Turns l (Awaiting e) bytes begin place sent (Awaiting e) place place sent false
   turn-undecided y q =
       let u : decide e (drop place bytes) ≡ Undecided = sym p ∙ q in
       record {
         staged = rw u;
+        begun = refl;
         counted = rw u (sym (add-zero sent));
         placed = rw u (sym (add-zero place));
         falls = λ z. absurd (clash (sym z));
@@ -237,11 +289,12 @@ module _ (l : Lengths) (e : Reply) (bytes : List ℕ) (place sent : ℕ) {d : De
     decided-inside h = omega (arith, decided-within e (drop place bytes) n v (sym p ∙ q), length-drop place bytes)
 
     pub turn-decided : place ≤ length bytes → {r : Due} → r ≡ dueJudged l e v → {total : ℕ} → total ≡ length bytes → {again : Bool} → again ≡ goesOn (r .stage) (place + n) total
-        → Turns l (Awaiting e) bytes place sent (r .stage) (place + n) (sent + r .len) again
+        → Turns l (Awaiting e) bytes begin place sent (r .stage) place (place + n) (sent + r .len) again
     turn-decided h {r} s {total} t {again} g =
         let u : decide e (drop place bytes) ≡ Decided n v = sym p ∙ q in
         record {
           staged = rw (u, s);
+          begun = refl;
           counted = rw (u, s);
           placed = rw u;
           falls = λ z. falls-judged v s (sym g ∙ z);
@@ -257,13 +310,13 @@ module _ (l : Lengths) (e : Reply) (bytes : List ℕ) (place sent : ℕ) {d : De
         rests-at Open z = tt
         rests-at (Failed x) z = tt
 
-module _ {l : Lengths} {began : Stage} {bytes : List ℕ} {stage : Stage} {place sent left : ℕ} where
-  module _ {stage′ : Stage} {place′ sent′ : ℕ} {again : Bool} where
-    pub loops-on : Loops l began bytes stage place sent left → Turns l stage bytes place sent stage′ place′ sent′ again → again ≡ true → Loops l began bytes stage′ place′ sent′ (left - 1)
+module _ {l : Lengths} {began : Stage} {bytes : List ℕ} {stage : Stage} {begin place sent left : ℕ} where
+  module _ {stage′ : Stage} {begin′ place′ sent′ : ℕ} {again : Bool} where
+    pub loops-on : Loops l began bytes stage begin place sent left → Turns l stage bytes begin place sent stage′ begin′ place′ sent′ again → again ≡ true → Loops l began bytes stage′ begin′ place′ sent′ (left - 1)
     loops-on g t a = let f = t .falls a in let k = g .ends in record { reply = g .reply; first = g .first; going = going-on stage (g .going) t; ends = omega arith }
 
-    pub loops-break : (e : Reply) → began ≡ Awaiting e → Loops l began bytes stage place sent left → Turns l stage bytes place sent stage′ place′ sent′ again → again ≡ false → Worked l e bytes stage′ place′ sent′
+    pub loops-break : (e : Reply) → began ≡ Awaiting e → Loops l began bytes stage begin place sent left → Turns l stage bytes begin place sent stage′ begin′ place′ sent′ again → again ≡ false → Worked l e bytes stage′ begin′ place′ sent′
     loops-break e q g t a = rw (same-reply (sym q ∙ g .first)) (going-last (going-on stage (g .going) t) (t .rests a))
 
-  pub loops-end : (e : Reply) → began ≡ Awaiting e → Loops l began bytes stage place sent left → left ≤ 0 → Worked l e bytes stage place sent
+  pub loops-end : (e : Reply) → began ≡ Awaiting e → Loops l began bytes stage begin place sent left → left ≤ 0 → Worked l e bytes stage begin place sent
   loops-end e q g z = let k = g .ends in rw (same-reply (sym q ∙ g .first)) (going-last (g .going) (settled stage (drop place bytes) (omega arith)))

@@ -8,15 +8,18 @@ use lib.Dec.{ltb}
 use Rattle.protocol.specs.declared.Reply.{Reply}
 use Rattle.protocol.specs.declared.Decision.{Decision}
 use Rattle.protocol.specs.declared.Decision.the-variants.{Undecided, Decided}
+use Rattle.protocol.specs.declared.Bound.{Bound}
+use Rattle.protocol.specs.Bound.{Endpoint, boundBy, bytesIn, boundOf}
 use Rattle.protocol.specs.Replies.{decide}
 use Rattle.protocol.specs.Client.{Kept, talkAt, client}
 use Rattle.sending.specs.declared.Lengths.{Lengths}
 use Rattle.sending.specs.declared.Due.{Due}
 use Rattle.sending.specs.declared.Stage.{Stage}
 use Rattle.sending.specs.declared.Stage.the-variants.{Awaiting, Open, Failed}
-use Rattle.sending.specs.Stages.{SideFed, viewAt, rank}
+use Rattle.sending.specs.Stages.{SideSession, SideFed, sessionAt, stageOf, holdsOf, boundAfter, rank}
 use Rattle.sending.specs.Parts.{part, requestsOf}
 use Rattle.sending.specs.Due.{dueJudged, dueFrom, stillDue}
+use Rattle.bound.specs.Named.{lastOf, Whole}
 use Rattle.turns.specs.declared.Taken.{Taken}
 use Rattle.talk.specs.Talk.{done, failed, ended, unmoved, feed, heldBy}
 
@@ -24,11 +27,11 @@ use Rattle.talk.specs.Talk.{done, failed, ended, unmoved, feed, heldBy}
 abbrev pub keptIn : Lengths → List ℕ → Kept
 keptIn l b = requestsOf (record { lengths = l; bytes = b })
 
--- what bytes do at a stage
-abbrev pub onStage : Kept → Stage → List ℕ → SideFed
-onStage c (Awaiting e) bs = feed (client c) (talkAt c e) bs
-onStage c Open bs = unmoved (ended (done tt))
-onStage c (Failed x) bs = unmoved (ended (failed x))
+-- what bytes do at a stage; one that is open is bound to an address
+abbrev pub onStage : Kept → Stage → Endpoint → List ℕ → SideFed
+onStage c (Awaiting e) x bs = feed (client c) (talkAt c e) bs
+onStage c Open x bs = unmoved (ended (done x))
+onStage c (Failed y) x bs = unmoved (ended (failed y))
 
 abbrev pub dueDecided : Lengths → Reply → Decision → Due
 dueDecided l e Undecided = record { stage = Awaiting e; len = 0 }
@@ -61,33 +64,57 @@ Rests (Awaiting e) rest = (decide e rest ≡ Undecided) × (length rest ≤ 261)
 Rests Open rest = Unit {0}
 Rests (Failed x) rest = Unit {0}
 
-pub record Turns (l : Lengths) (from : Stage) (bytes : List ℕ) (place sent : ℕ) (stage : Stage) (place′ sent′ : ℕ) (again : Bool) : Type 0 where
+-- where the last reply read begins
+abbrev pub turnBegin : Stage → ℕ → ℕ → ℕ
+turnBegin (Awaiting e) begin place = place
+turnBegin Open begin place = begin
+turnBegin (Failed x) begin place = begin
+
+pub record Turns (l : Lengths) (from : Stage) (bytes : List ℕ) (begin place sent : ℕ) (stage : Stage) (begin′ place′ sent′ : ℕ) (again : Bool) : Type 0 where
   pub staged : stage ≡ dueTurn l from (drop place bytes) .stage
   pub counted : sent′ ≡ sent + dueTurn l from (drop place bytes) .len
+  pub begun : begin′ ≡ turnBegin from begin place
   pub placed : place′ ≡ place + turnBytes from (drop place bytes)
   pub falls : again ≡ true → rank stage < rank from
   pub rests : again ≡ false → Rests stage (drop place′ bytes)
 
+-- what the last reply names, where a session that waited for a reply reads it at a place
+abbrev pub namedAt : Reply → ℕ → List ℕ → Endpoint
+namedAt e begin bytes = boundBy (lastOf e) (drop begin bytes)
+
+-- an open session has read the last reply whole
+abbrev pub Ready : Stage → Reply → ℕ → List ℕ → Type 0
+Ready (Awaiting w) e begin bytes = Unit {0}
+Ready Open e begin bytes = (begin ≤ length bytes) × Whole e (drop begin bytes)
+Ready (Failed x) e begin bytes = Unit {0}
+
 -- a delivery worked through: all that the bytes do, whatever the bytes of the requests
-pub record Worked (l : Lengths) (e : Reply) (bytes : List ℕ) (stage : Stage) (place sent : ℕ) : Type 0 where
-  pub whole : (b : List ℕ) → feed (client (keptIn l b)) (talkAt (keptIn l b) e) bytes ≡ record { session = viewAt stage (drop place bytes); sent = part b (dueFrom l e) sent; place = place }
+pub record Worked (l : Lengths) (e : Reply) (bytes : List ℕ) (stage : Stage) (begin place sent : ℕ) : Type 0 where
+  pub whole : (b : List ℕ) → feed (client (keptIn l b)) (talkAt (keptIn l b) e) bytes ≡ record { session = sessionAt stage (namedAt e begin bytes) (drop place bytes); sent = part b (dueFrom l e) sent; place = place }
   pub inside : place ≤ length bytes
   pub rests : Rests stage (drop place bytes)
+  pub ready : Ready stage e begin bytes
   pub few : sent ≤ stillDue (Awaiting e)
 
--- what a piece comes to where nothing is left to do behind a place: the rest of a stage that waits is held at the hold's start
-pub record Keeps (stage : Stage) (place : ℕ) (held piece hold : List ℕ) (r : Taken) (hold′ : List ℕ) : Type 0 where
-  pub staged : r .stage ≡ stage
-  pub counts : r .held ≡ length (heldBy (viewAt stage (drop place (held ++ piece))))
-  pub holds : hold′ ≡ heldBy (viewAt stage (drop place (held ++ piece))) ++ drop (length (heldBy (viewAt stage (drop place (held ++ piece))))) hold
-  pub uses : r .used ≡ place + length (heldBy (viewAt stage (drop place (held ++ piece)))) - length held
+-- what a piece comes to where nothing is left to do behind a place: what a session then has stands at the hold's start
+pub record Keeps (m : SideSession) (place : ℕ) (held piece hold : List ℕ) (bound : Bound) (r : Taken) (hold′ : List ℕ) : Type 0 where
+  pub staged : r .stage ≡ stageOf m
+  pub bounds : r .bound ≡ boundAfter m bound
+  pub counts : r .held ≡ length (holdsOf m)
+  pub holds : hold′ ≡ holdsOf m ++ drop (length (holdsOf m)) hold
+  pub uses : r .used ≡ place + length (heldBy m) - length held
   pub within : r .used ≤ length piece
 
+-- a session that opens: what its last reply names stands at the hold's start
+pub record Opens (x : Endpoint) (stage : Stage) (used from sent : ℕ) (hold : List ℕ) (r : Taken) (hold′ : List ℕ) : Type 0 where
+  pub is : r ≡ record { stage = stage; held = length (bytesIn (x .address)); used = used; from = from; sent = sent; bound = boundOf x }
+  pub holds : hold′ ≡ bytesIn (x .address) ++ drop (length (bytesIn (x .address))) hold
+
 -- a piece taken: all that held bytes and piece do, whatever the bytes of the requests
-pub record Takes (l : Lengths) (e : Reply) (held piece hold : List ℕ) (r : Taken) (hold′ : List ℕ) : Type 0 where
-  pub stage : Stage
+pub record Takes (l : Lengths) (e : Reply) (held piece hold : List ℕ) (bound : Bound) (r : Taken) (hold′ : List ℕ) : Type 0 where
+  pub session : SideSession
   pub place : ℕ
-  pub whole : (b : List ℕ) → feed (client (keptIn l b)) (talkAt (keptIn l b) e) (held ++ piece) ≡ record { session = viewAt stage (drop place (held ++ piece)); sent = part b (r .from) (r .sent); place = place }
-  pub keeps : Keeps stage place held piece hold r hold′
+  pub whole : (b : List ℕ) → feed (client (keptIn l b)) (talkAt (keptIn l b) e) (held ++ piece) ≡ record { session = session; sent = part b (r .from) (r .sent); place = place }
+  pub keeps : Keeps session place held piece hold bound r hold′
   pub few : r .sent ≤ stillDue (Awaiting e)
   pub inside : r .from + r .sent ≤ 778

@@ -1,12 +1,13 @@
 -- A writer composes with the next.
 use mathlib.Core.Path.{_≡_, sym, ap, _∙_}
 use mathlib.Core.List.{List, [], _∷_, _++_, append-assoc}
-use Prim.Native.Nat.{ℕ, _+_, _≤_, _<_}
-use native.Mathlib.Nat.{add-assoc}
+use Prim.Native.Nat.{ℕ, _+_, _-_, _≤_, _<_}
+use native.Mathlib.Nat.{add-assoc, zero-add}
 use native.Mathlib.Numerals.{add-one}
 use native.Mathlib.Omega.{arith}
-use lib.ListN.{length, take, drop, set, length-append, length-take, length-drop}
-use lib.Seq.{take-at, set-split, paste, drop-append-add, drop-drop, take-length}
+use lib.ListN.{length, take, drop, set, replicate, length-append, length-take, length-drop, length-replicate, replicate-append-replicate}
+use lib.Seq.{take-at, drop-at, set-split, paste, drop-append-add, drop-drop, take-length}
+use Rattle.protocol.specs.Bytes.{padded}
 use Rattle.wire.specs.Written.{overwrite, Wrote}
 
 module _ (out : List ℕ) (at : ℕ) (bs : List ℕ) (inside : at + length bs ≤ length out) where
@@ -56,3 +57,15 @@ then {o} {o₁} {o₂} {at} {a₁} {a₂} {bs} {cs} v w =
       place = simp length-append (omega arith);
       bytes = w .bytes ∙ rw (v .bytes, v .place) (overwrite-more o at bs (v .inside) cs);
     }
+
+drop-zeros : (n m : ℕ) → n ≤ m → drop {A = ℕ} n (replicate m 0) ≡ replicate (m - n) 0
+drop-zeros n m h =
+    let z : m ≡ n + (m - n) = omega arith in
+    ap (λ (k : ℕ). drop {A = ℕ} n (replicate k 0)) z ∙ ap (drop n) (sym (replicate-append-replicate {A = ℕ} n (m - n) 0)) ∙ drop-at (replicate n 0) (replicate (m - n) 0) n (length-replicate {A = ℕ} n 0)
+
+-- bytes written at the start of zeros
+pub zeros-under : (m : ℕ) {bs out′ : List ℕ} {next : ℕ} → Wrote (replicate m 0) 0 bs next out′ → out′ ≡ padded m bs
+unfolding overwrite
+zeros-under m {bs} w =
+    let h : length bs ≤ m = omega (arith, w .inside, length-replicate {A = ℕ} m 0) in
+    w .bytes ∙ ap (λ (k : ℕ). bs ++ drop k (replicate m 0)) (zero-add (length bs)) ∙ ap (λ (t : List ℕ). bs ++ t) (drop-zeros (length bs) m h)

@@ -40,7 +40,7 @@ module _ (n : ℕ) (h p : List ℕ) (a : ℕ) (e : a ≡ min n (length h)) where
           let o : length h + (n - length h) ≡ n = omega arith in
           rw (z, drop-length h) (rw o at (drop-append-add h p (n - length h)))
 
-  take-two : take n (h ++ p) ≡ take a h ++ take (n - a) p
+  pub take-two : take n (h ++ p) ≡ take a h ++ take (n - a) p
   take-two = go (leb n (length h)) refl
     where
       go : (b : Bool) → leb n (length h) ≡ b → take n (h ++ p) ≡ take a h ++ take (n - a) p

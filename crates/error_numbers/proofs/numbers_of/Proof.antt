@@ -101,6 +101,18 @@ enum-told-16 c = search needs
 alone-requires-16 : tie.Need-alone-requires-16
 alone-requires-16 c κs = search needs
 
+enum-told-17 : tie.Need-enum-told-17
+enum-told-17 c = search needs
+
+alone-requires-17 : tie.Need-alone-requires-17
+alone-requires-17 c κs = search needs
+
+enum-told-18 : tie.Need-enum-told-18
+enum-told-18 c = search needs
+
+alone-requires-18 : tie.Need-alone-requires-18
+alone-requires-18 c κs = search needs
+
 returns : tie.Need-returns
 returns c = rw (c .before .enum-told .given .1) (c .alone .ensures)
 
@@ -152,6 +164,12 @@ returns-16 c = rw (c .before .enum-told15 .given .1) (c .alone15 .ensures)
 returns-17 : tie.Need-returns-17
 returns-17 c = rw (c .before .enum-told16 .given .1) (c .alone16 .ensures)
 
+returns-18 : tie.Need-returns-18
+returns-18 c = rw (c .before .enum-told17 .given .1) (c .alone17 .ensures)
+
+returns-19 : tie.Need-returns-19
+returns-19 c = rw (c .before .enum-told18 .given .1) (c .alone18 .ensures)
+
 pub numbers-of-spec : {M : Type 1} → statement M
 numbers-of-spec =
     tie.close
@@ -189,6 +207,10 @@ numbers-of-spec =
     alone-requires-15
     enum-told-16
     alone-requires-16
+    enum-told-17
+    alone-requires-17
+    enum-told-18
+    alone-requires-18
     returns
     returns-2
     returns-3
@@ -205,4 +227,6 @@ numbers-of-spec =
     returns-14
     returns-15
     returns-16
-    returns-17)
+    returns-17
+    returns-18
+    returns-19)

@@ -20,19 +20,19 @@ open-requires c κs = search needs
 past-requires : tie.Need-past-requires
 past-requires c κs = search needs
 
-take-deliveries-requires : tie.Need-take-deliveries-requires
-take-deliveries-requires c κs =
-    let b = c .before .before .before .before .before .before .before .before .before .before .before .before .before .before in
+take-rest-requires : tie.Need-take-rest-requires
+take-rest-requires c κs =
+    let b = c .before .before .before .before .before .before .before .before .before .before .before .before .before in
     let p = b .pre in
-    let o = c .before .before .before .before .before .before .before .«open» in
+    let o = c .before .before .before .before .before .before .«open» in
     let q = c .before .before .before .past in
     (unread-past (b .args .input) (q .result) (b .args .head .size) (p .0) (q .ensures .0) (q .ensures .1 .0) (p .1 .1 .1 .0), (record { kept = o .ensures .1 .0; line = rw (o .ensures .0) (p .1 .1 .1 .1 .0) }, (o .ensures .1 .1, rooms-as (p .1 .1 .1 .1 .1) (o .kept .1 .1 .1 .0) refl)))
 
 close-requires : tie.Need-close-requires
 close-requires c κs =
-    let t = c .before .before .before .before .before .before .before .before .take-deliveries in
-    let o = c .before .before .before .before .before .before .before .before .before .before .before .before .before .before .before .before .«open» in
-    (keeps-as (t .ensures .1) (t .kept .1 .1 .1 .1 .1 .0), (o .ensures .1 .1, rooms-as (c .before .before .before .before .before .before .before .before .before .before .before .before .before .before .before .before .before .before .before .before .before .before .before .pre .1 .1 .1 .1 .1) (t .kept .1 .1 .1 .1 .0 ∙ o .kept .1 .1 .1 .0) (t .kept .1 .1 .1 .1 .1 .0)))
+    let t = c .before .before .before .before .before .before .before .before .take-rest in
+    let o = c .before .before .before .before .before .before .before .before .before .before .before .before .before .before .before .«open» in
+    (keeps-as (t .ensures .1 .0) (t .kept .1 .1 .1 .1 .0), (t .ensures .1 .1, (o .ensures .1 .1, rooms-as (c .before .before .before .before .before .before .before .before .before .before .before .before .before .before .before .before .before .before .before .before .before .before .pre .1 .1 .1 .1 .1) (t .kept .1 .1 .1 .0 ∙ o .kept .1 .1 .1 .0) (t .kept .1 .1 .1 .1 .0))))
 
 same-length : tie.Need-same-length
 same-length c = search needs
@@ -45,9 +45,9 @@ same-length-3 c = search needs
 
 returns : tie.Need-returns
 returns c =
-    let t = c .before .before .before .before .before .before .before .before .before .before .before .take-deliveries in
+    let t = c .before .before .before .before .before .before .before .before .before .before .before .take-rest in
     let r = c .before .before .close .ensures in
-    (rw (r .0) (t .ensures .0), le-as _ (r .1) (t .kept .1 .1 .1 .1 .1 .0))
+    (rw (r .0) (t .ensures .0), le-as _ (r .1) (t .kept .1 .1 .1 .1 .0))
 
 pub run-case-spec : {M : Type 1} → statement M
 run-case-spec =
@@ -58,7 +58,7 @@ run-case-spec =
     part-open-end
     open-requires
     past-requires
-    take-deliveries-requires
+    take-rest-requires
     close-requires
     same-length
     same-length-2

@@ -18,25 +18,14 @@ add-put-end c = search needs
 put-end-requires : tie.Need-put-end-requires
 put-end-requires c κs = simp length-set (omega arith)
 
-slice-write-text-2 : tie.Need-slice-write-text-2
-slice-write-text-2 c =
-    let k = then (then (c .before .before .before .before .before .before .put-numbers .ensures .1) (one _ _ _ (omega arith))) (c .before .before .put-end .ensures .1) in
-    omega (arith, k .same)
-
-add-result : tie.Need-add-result
-add-result c = search needs
-
 same-length : tie.Need-same-length
 same-length c =
     let k = then (then (c .before .before .before .before .before .before .put-numbers .ensures .1) (one _ _ _ (omega arith))) (c .before .before .put-end .ensures .1) in
-    simp length-set (k .same)
+    k .same
 
 returns : tie.Need-returns
 unfolding answersText
-returns c =
-    let k = then (then (c .before .before .before .before .before .before .put-numbers .ensures .1) (one _ _ _ (omega arith))) (c .before .before .put-end .ensures .1) in
-    let e = k .same in
-    (omega arith, then k (one _ _ _ (omega arith)))
+returns c = (omega arith, then (then (c .before .before .before .before .before .before .put-numbers .ensures .1) (one _ _ _ (omega arith))) (c .before .before .put-end .ensures .1))
 
 pub put-answers-spec : {M : Type 1} → statement M
 put-answers-spec =
@@ -46,7 +35,5 @@ put-answers-spec =
     slice-write-text
     add-put-end
     put-end-requires
-    slice-write-text-2
-    add-result
     same-length
     returns)

@@ -33,13 +33,13 @@ returns c = rw (c .before .before .before .before .before .stage .given .1) (c .
 returns-2 : tie.Need-returns-2
 returns-2 c =
     let a = c .before .before .before .before .before .args in
-    receives-settled (a .started) (a .held) (a .lengths) (a .hold .now) (a .piece .now) (a .room) (a .stage) (ap rank (c .before .enum-told .given .1)) (c .unchanged .ensures)
+    receives-settled (a .started) (a .held) (a .lengths) (a .hold .now) (a .piece .now) (a .room) (a .bound) (a .stage) (ap rank (c .before .enum-told .given .1)) (c .unchanged .ensures)
 
 returns-3 : tie.Need-returns-3
 returns-3 c =
     let a = c .before .before .before .before .before .before .args in
     let e = c .before .before .stage2 .given in
-    rw (e .1) (receives-settled (a .started) (a .held) (a .lengths) (a .hold .now) (a .piece .now) (a .room) (Failed (e .0 .0)) refl (c .unchanged2 .ensures))
+    rw (e .1) (receives-settled (a .started) (a .held) (a .lengths) (a .hold .now) (a .piece .now) (a .room) (a .bound) (Failed (e .0 .0)) refl (c .unchanged2 .ensures))
 
 pub receive-spec : {M : Type 1} → statement M
 receive-spec =

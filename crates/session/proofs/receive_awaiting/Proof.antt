@@ -13,7 +13,7 @@ unchanged-requires c κs = search needs
 returns : tie.Need-returns
 returns c =
     let a = c .before .before .before .before .args in
-    receives-unstarted (a .started) (a .held) (a .lengths) (a .hold .now) (a .piece .now) (a .room) (a .reply) (not-true _ (c .before .if1 .taken)) (c .unchanged .ensures)
+    receives-unstarted (a .started) (a .held) (a .lengths) (a .hold .now) (a .piece .now) (a .room) (a .bound) (a .reply) (not-true _ (c .before .if1 .taken)) (c .unchanged .ensures)
 
 room-of-requires : tie.Need-room-of-requires
 room-of-requires c κs = search needs
@@ -24,7 +24,7 @@ unchanged-requires-2 c κs = search needs
 returns-2 : tie.Need-returns-2
 returns-2 c =
     let a = c .before .before .before .before .before .before .args in
-    receives-short (a .started) (a .held) (a .lengths) (a .hold .now) (a .piece .now) (a .room) (a .reply) (not-false _ (c .before .before .before .if1 .left)) (omega (arith, c .before .before .room-of .ensures, c .before .if2 .taken)) (c .unchanged2 .ensures)
+    receives-short (a .started) (a .held) (a .lengths) (a .hold .now) (a .piece .now) (a .room) (a .bound) (a .reply) (not-false _ (c .before .before .before .if1 .left)) (omega (arith, c .before .before .room-of .ensures, c .before .if2 .taken)) (c .unchanged2 .ensures)
 
 unchanged-requires-3 : tie.Need-unchanged-requires-3
 unchanged-requires-3 c κs = search needs
@@ -32,7 +32,7 @@ unchanged-requires-3 c κs = search needs
 returns-3 : tie.Need-returns-3
 returns-3 c =
     let a = c .before .before .before .before .before .before .before .args in
-    receives-none (a .started) (a .held) (a .lengths) (a .hold .now) (a .piece .now) (a .room) (a .reply) (not-false _ (c .before .before .before .before .if1 .left)) (omega (arith, c .before .before .before .room-of .ensures, c .before .before .if2 .left)) (c .before .if3 .taken) (c .unchanged3 .ensures)
+    receives-none (a .started) (a .held) (a .lengths) (a .hold .now) (a .piece .now) (a .room) (a .bound) (a .reply) (not-false _ (c .before .before .before .before .if1 .left)) (omega (arith, c .before .before .before .room-of .ensures, c .before .before .if2 .left)) (c .before .if3 .taken) (c .unchanged3 .ensures)
 
 least-requires : tie.Need-least-requires
 least-requires c κs = search needs
@@ -50,7 +50,7 @@ returns-4 c =
     let a = start .args in
     let z = c3 .if3 .left in
     let held : take (c .before .before .before .least .result) (a .hold .now) ≡ take (a .held) (a .hold .now) = rw (c .before .before .before .least .ensures) (take-least (a .held) (a .hold .now) (start .pre)) in
-    receives-taken (a .started) (a .held) (a .lengths) (a .hold .now) (a .piece .now) (a .room) (a .reply) held (c .before .before .take .ensures) (not-false _ (c3 .before .before .before .if1 .left))
+    receives-taken (a .started) (a .held) (a .lengths) (a .hold .now) (a .piece .now) (a .room) (a .bound) (a .reply) held (c .before .before .take .ensures) (not-false _ (c3 .before .before .before .if1 .left))
     (omega (arith, c3 .before .before .room-of .ensures, c3 .before .if2 .left)) (λ y. omega arith)
 
 pub receive-awaiting-spec : {M : Type 1} → statement M

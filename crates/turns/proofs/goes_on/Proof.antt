@@ -18,7 +18,7 @@ returns-2 : tie.Need-returns-2
 returns-2 c = search needs
 
 returns-3 : tie.Need-returns-3
-returns-3 c = search needs
+returns-3 c = rw (c .before .stage2 .given .1)
 
 pub goes-on-spec : {M : Type 1} → statement M
 goes-on-spec =

@@ -17,8 +17,8 @@ copy-requires c κs =
     let start = c .before .before .before .before .before in
     omega (arith, c .before .before .fewest .ensures, fewest-small (start .args .reply), c .before .if1 .taken, start .pre .0)
 
-add-t15 : tie.Need-add-t15
-add-t15 c = search needs
+add-t16 : tie.Need-add-t16
+add-t16 c = search needs
 
 same-length : tie.Need-same-length
 same-length c = search needs
@@ -28,7 +28,7 @@ returns c =
     let start = c .before .before .before .before .before .before .before .before in
     let a = start .args in
     let p = start .pre in
-    takes-few (a .lengths) (a .reply) (a .piece .now) (a .hold .now) (omega arith) (p .0) (omega (arith, c .before .before .before .before .before .fewest .ensures, c .before .before .before .before .if1 .taken)) refl (c .before .before .copy .ensures .bytes)
+    takes-few (a .lengths) (a .reply) (a .piece .now) (a .hold .now) (a .bound) (omega arith) (p .0) (omega (arith, c .before .before .before .before .before .fewest .ensures, c .before .before .before .before .if1 .taken)) refl (c .before .before .copy .ensures .bytes)
 
 slice-reshare-prefix-work : tie.Need-slice-reshare-prefix-work
 slice-reshare-prefix-work c = search needs
@@ -51,7 +51,7 @@ taken-requires c κs =
     let p = start .pre in
     let w = c .before .before .work .ensures in
     let i = w .inside in
-    (p .0, p .1, omega (arith, i, length-append (take (a .n) (a .hold .now)) (a .piece .now), held-long (a .n) (a .hold .now) (p .0) (p .1)), w .rests)
+    (p .0, p .1, omega (arith, i, length-append (take (a .n) (a .hold .now)) (a .piece .now), held-long (a .n) (a .hold .now) (p .0) (p .1)), w .rests, w .ready)
 
 same-length-2 : tie.Need-same-length-2
 same-length-2 c = search needs
@@ -60,7 +60,7 @@ returns-2 : tie.Need-returns-2
 returns-2 c =
     let a = c .before .before .before .before .before .before .before .before .before .before .before .args in
     let w = c .before .before .before .before .before .work in
-    takes-worked (a .lengths) (a .reply) (take (a .n) (a .hold .now)) (a .piece .now) (a .hold .now) (w .result .stage) (w .result .place) (w .result .sent) (w .ensures) (c .before .before .before .due-from .ensures) (c .before .before .taken .ensures)
+    takes-worked (a .lengths) (a .reply) (take (a .n) (a .hold .now)) (a .piece .now) (a .hold .now) (a .bound) (w .result .stage) (w .result .begin) (w .result .place) (w .result .sent) (w .ensures) (c .before .before .before .due-from .ensures) (c .before .before .taken .ensures)
 
 pub take-spec : {M : Type 1} → statement M
 take-spec =
@@ -69,7 +69,7 @@ take-spec =
     add-if1
     fewest-requires
     copy-requires
-    add-t15
+    add-t16
     same-length
     returns
     slice-reshare-prefix-work

@@ -9,7 +9,7 @@ use Rattle.turns.proofs.work.Statement.{statement}
 use Rattle.turns.proofs.work.Tie as tie
 
 abbrev Inv-loop : tie.InvT-loop
-Inv-loop lengths held piece turn₀ left₀ turn left = Loops lengths (turn₀ .stage) (held ++ piece) (turn .stage) (turn .place) (turn .sent) left
+Inv-loop lengths held piece turn₀ left₀ turn left = Loops lengths (turn₀ .stage) (held ++ piece) (turn .stage) (turn .begin) (turn .place) (turn .sent) left
 
 abbrev μ-loop : tie.MeasureT-loop
 μ-loop lengths held piece turn₀ left₀ turn left = left

@@ -22,9 +22,9 @@ bytes-long c = search needs
 
 returns : tie.Need-returns
 returns c =
-    let start = c .before .before .before .before .before .before .before .before .before .before .before .before .before in
+    let start = c .before .before .before .before .before .before .before .before .before .before .before .before .before .before .before in
     let a = start .args in
-    delivers (a .self) (a .piece .now) (a .out .now) (c .before .before .before .before .before .before .receive .ensures) (bytes-long start) (c .before .before .send .ensures)
+    delivers (a .self) (a .piece .now) (a .out .now) (c .before .before .before .before .before .before .before .receive .ensures) (bytes-long start) (c .before .before .before .send .ensures)
 
 pub deliver-spec : {M : Type 1} → statement M
 deliver-spec =

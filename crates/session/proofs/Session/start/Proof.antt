@@ -32,9 +32,9 @@ same-length c = search needs
 
 returns : tie.Need-returns
 returns c =
-    let start = c .before .before .before .before .before .before .before .before .before .before .before in
+    let start = c .before .before .before .before .before .before .before .before .before .before .before .before in
     let a = start .args in
-    starts-as (a .self) (a .out .now) (c .before .before .before .before .before .before .start .ensures) (bytes-long start) (c .before .before .before .copy .ensures .bytes)
+    starts-as (a .self) (a .out .now) (c .before .before .before .before .before .before .before .start .ensures) (bytes-long start) (c .before .before .before .before .copy .ensures .bytes)
 
 pub start-spec : {M : Type 1} → statement M
 start-spec =

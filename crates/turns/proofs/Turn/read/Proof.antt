@@ -25,7 +25,7 @@ add-place c =
     let a = start .args in
     let p = start .pre in
     let l = length-append (a .held .now) (a .piece .now) in
-    let i = decided-inside (a .lengths) (a .reply) (a .held .now ++ a .piece .now) (a .self .place) (a .self .sent) (c .before .before .before .before .before .read-at .ensures .0) (c .before .before .before .n .given .1) (omega arith) in
+    let i = decided-inside (a .lengths) (a .reply) (a .held .now ++ a .piece .now) (a .self .begin) (a .self .place) (a .self .sent) (c .before .before .before .before .before .read-at .ensures .0) (c .before .before .before .n .given .1) (omega arith) in
     let k = c .before .before .before .before .before .before .shared-slice-known2 .given in
     record { fits = omega arith }
 
@@ -46,7 +46,7 @@ returns : tie.Need-returns
 returns c =
     let a = c .before .before .before .before .before .args in
     let r = c .before .before .read-at .ensures in
-    turn-undecided (a .lengths) (a .reply) (a .held .now ++ a .piece .now) (a .self .place) (a .self .sent) (r .0) (r .1) (c .enum-told .given .1)
+    turn-undecided (a .lengths) (a .reply) (a .held .now ++ a .piece .now) (a .self .begin) (a .self .place) (a .self .sent) (r .0) (r .1) (c .enum-told .given .1)
 
 returns-2 : tie.Need-returns-2
 returns-2 c =
@@ -54,7 +54,7 @@ returns-2 c =
     let a = start .args in
     let p = start .pre in
     let l = length-append (a .held .now) (a .piece .now) in
-    turn-decided (a .lengths) (a .reply) (a .held .now ++ a .piece .now) (a .self .place) (a .self .sent) (c .before .before .before .before .before .before .before .before .read-at .ensures .0) (c .before .before .before .before .before .before .n .given .1) (omega arith) (c .before .before .before .before .due-judged .ensures) (sym l) (c .goes-on .ensures)
+    turn-decided (a .lengths) (a .reply) (a .held .now ++ a .piece .now) (a .self .begin) (a .self .place) (a .self .sent) (c .before .before .before .before .before .before .before .before .read-at .ensures .0) (c .before .before .before .before .before .before .n .given .1) (omega arith) (c .before .before .before .before .due-judged .ensures) (sym l) (c .goes-on .ensures)
 
 pub read-spec : {M : Type 1} → statement M
 read-spec =

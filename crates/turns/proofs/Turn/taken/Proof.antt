@@ -1,6 +1,9 @@
-use mathlib.Core.Path.{ap}
-use Rattle.sending.specs.Stages.{rank}
-use Rattle.turns.proofs.Keeping.{unread-few, rests-few, kept-waits, kept-ended}
+use mathlib.Core.Path.{refl, ap}
+use mathlib.Core.List.{_++_}
+use lib.ListN.{take}
+use Rattle.turns.specs.declared.Taken.{Taken}
+use Rattle.turns.specs.Turns.{namedAt}
+use Rattle.turns.proofs.Keeping.{held-long, unread-few, rests-few, ready-open, keeps-waits, keeps-failed, keeps-open}
 use borrow.Author.Needs.{needs}
 use Rattle.turns.proofs.Turn.taken.Statement.{statement}
 use Rattle.turns.proofs.Turn.taken.Tie as tie
@@ -18,17 +21,20 @@ waits-requires c κs =
 enum-told : tie.Need-enum-told
 enum-told c = search needs
 
-ended-requires : tie.Need-ended-requires
-ended-requires c κs = search needs
+opened-requires : tie.Need-opened-requires
+opened-requires c κs = let p = c .before .before .before .before .before .pre in (p .0, p .1, p .2, ready-open _ _ _ (c .before .enum-told .given .1) (p .4))
 
 enum-known-stage-2 : tie.Need-enum-known-stage-2
 enum-known-stage-2 c = search needs
 
-ended-requires-2 : tie.Need-ended-requires-2
-ended-requires-2 c κs = search needs
+failed-requires : tie.Need-failed-requires
+failed-requires c κs = search needs
 
 same-length : tie.Need-same-length
 same-length c = search needs
+
+same-length-2 : tie.Need-same-length-2
+same-length-2 c = search needs
 
 returns : tie.Need-returns
 returns c =
@@ -36,21 +42,35 @@ returns c =
     let a = start .args in
     let p = start .pre in
     let w = c .before .before .waits .ensures in
-    kept-waits (a .self .place) (a .n) (a .hold .now) (a .piece .now) (p .0) (p .1) (p .2) (c .before .before .before .before .before .stage .given .1) (w .0) (w .1)
+    let h = take (a .n) (a .hold .now) in (
+      keeps-waits (a .self .place) h (a .piece .now) (a .hold .now) (held-long (a .n) (a .hold .now) (p .0) (p .1)) (p .2) (namedAt (a .reply) (a .self .begin) (h ++ a .piece .now)) (c .before .before .before .before .before .stage .given .1) (w .0) (w .1),
+      ap (λ (t : Taken). t .from) (w .0),
+      ap (λ (t : Taken). t .sent) (w .0),
+    )
 
 returns-2 : tie.Need-returns-2
 returns-2 c =
-    let start = c .before .before .before .before .before in
+    let start = c .before .before .before .before .before .before .before .before in
     let a = start .args in
     let p = start .pre in
-    kept-ended (a .self .place) (a .n) (a .hold .now) (a .piece .now) (p .0) (p .1) (p .2) (a .self .stage) (ap rank (c .before .enum-told .given .1)) (c .ended .ensures)
+    let w = c .before .before .opened .ensures in
+    let h = take (a .n) (a .hold .now) in (
+      keeps-open (a .self .place) h (a .piece .now) (a .hold .now) (held-long (a .n) (a .hold .now) (p .0) (p .1)) (p .2) (namedAt (a .reply) (a .self .begin) (h ++ a .piece .now)) (c .before .before .before .before .enum-told .given .1) w,
+      ap (λ (t : Taken). t .from) (w .is),
+      ap (λ (t : Taken). t .sent) (w .is),
+    )
 
 returns-3 : tie.Need-returns-3
 returns-3 c =
     let start = c .before .before .before .before .before .before in
     let a = start .args in
     let p = start .pre in
-    kept-ended (a .self .place) (a .n) (a .hold .now) (a .piece .now) (p .0) (p .1) (p .2) (a .self .stage) (ap rank (c .before .before .stage2 .given .1)) (c .ended2 .ensures)
+    let w = c .failed .ensures in
+    let h = take (a .n) (a .hold .now) in (
+      keeps-failed (a .self .place) h (a .piece .now) (a .hold .now) (held-long (a .n) (a .hold .now) (p .0) (p .1)) (p .2) (namedAt (a .reply) (a .self .begin) (h ++ a .piece .now)) (c .before .before .stage2 .given .1) w refl,
+      ap (λ (t : Taken). t .from) w,
+      ap (λ (t : Taken). t .sent) w,
+    )
 
 pub taken-spec : {M : Type 1} → statement M
 taken-spec =
@@ -59,10 +79,11 @@ taken-spec =
     enum-known-stage
     waits-requires
     enum-told
-    ended-requires
+    opened-requires
     enum-known-stage-2
-    ended-requires-2
+    failed-requires
     same-length
     returns
+    same-length-2
     returns-2
     returns-3)

@@ -5,14 +5,11 @@ use native.Mathlib.Nat.{le-trans}
 use native.Mathlib.Omega.{arith}
 use Prim.Native.Nat.{_≤_}
 use borrow.Author.Needs.{needs}
-use Rattle.course.proofs.finish.Statement.{statement}
-use Rattle.course.proofs.finish.Tie as tie
+use Rattle.course.proofs.put_course.Statement.{statement}
+use Rattle.course.proofs.put_course.Tie as tie
 
 most-sent : 8192 ≤ 73727
 most-sent = omega arith
-
-last-of-requires : tie.Need-last-of-requires
-last-of-requires c κs = search needs
 
 outcome-requires : tie.Need-outcome-requires
 outcome-requires c κs = search needs
@@ -31,12 +28,12 @@ part-put-line-end c = search needs
 
 slice-aggregate-put-line : tie.Need-slice-aggregate-put-line
 slice-aggregate-put-line c =
-    let b = c .before .before .before .before .before .before .before .before .before in
+    let b = c .before .before .before .before .before .before .before in
     sym (length-take-le (b .args .course .sent) (b .args .kept .now) (le-trans (b .pre .0 .kept) (le-trans most-sent (b .pre .1 .1 .0))))
 
 put-line-requires : tie.Need-put-line-requires
 put-line-requires c κs =
-    let b = c .before .before .before .before .before .before .before .before .before .before in
+    let b = c .before .before .before .before .before .before .before .before in
     (b .pre .0 .line, (short-part 8192 (b .args .count) 65535 _ (b .pre .1 .0), (short (b .args .course .sent) 8192 _ (b .pre .0 .kept), b .pre .1 .1 .1)))
 
 same-length : tie.Need-same-length
@@ -45,11 +42,10 @@ same-length c = search needs
 returns : tie.Need-returns
 returns c = search needs
 
-pub finish-spec : {M : Type 1} → statement M
-finish-spec =
+pub put-course-spec : {M : Type 1} → statement M
+put-course-spec =
     tie.close
     (tie.spec
-    last-of-requires
     outcome-requires
     add-stop
     sub-put-line

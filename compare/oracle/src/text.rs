@@ -1,0 +1,142 @@
+//! The text of a bound address against the standard library's `Display` of the same address and port: the model's, and
+//! `replay`'s through whole sessions. `Display` writes some IPv6 addresses with a dotted tail. These are set aside: of
+//! them the text must have no dot, and the standard library must read it back.
+use crate::case::*;
+use crate::compare::ask;
+use crate::draw::Random;
+use crate::model::{self, Line};
+use std::net::{IpAddr, SocketAddr};
+
+const BATCH: u64 = 20000;
+// One IPv4 address to so many of IPv6, over v5 and v4 in turn.
+const SIXES: u64 = 8;
+const SHOWN: usize = 10;
+
+// A session that opens with this address, its replies in one piece.
+fn case(version: u8, bound: SocketAddr) -> Case {
+    let port = bound.port().to_be_bytes();
+    let reply = match (version, bound.ip()) {
+        (4, IpAddr::V4(ip)) => [&[0, 90], &port[..], &ip.octets()].concat(),
+        (_, IpAddr::V4(ip)) => [&[5, 0, 5, 0, 0, 1], &ip.octets()[..], &port].concat(),
+        (_, IpAddr::V6(ip)) => [&[5, 0, 5, 0, 0, 4], &ip.octets()[..], &port].concat(),
+    };
+    Case {
+        version,
+        flags: PORT | TEXT,
+        port: 443,
+        lent: 1024,
+        host: b"a".to_vec(),
+        user: vec![],
+        password: vec![],
+        records: vec![],
+        deliveries: vec![Delivery { lent: 1024, piece: reply }],
+        text_lent: 47,
+    }
+}
+
+fn draw(seed: u64, number: u64) -> (Case, SocketAddr) {
+    let mut r = Random::new(seed, number);
+    let (version, ip) = match number % (2 * (SIXES + 1)) {
+        0 => (5, IpAddr::from(r.four())),
+        1 => (4, IpAddr::from(r.four())),
+        _ => (5, IpAddr::from(r.six())),
+    };
+    let bound = SocketAddr::new(ip, r.port());
+    (case(version, bound), bound)
+}
+
+#[derive(Default)]
+struct Figures {
+    four: usize,
+    six: usize,
+    shortened: usize,
+    compatible: usize,
+    mapped: usize,
+    // not as the line about the dotted tail says
+    dotted: usize,
+    differences: usize,
+}
+
+impl Figures {
+    // Answers whether `Display` writes the address with a dotted tail.
+    fn add(&mut self, bound: SocketAddr) -> bool {
+        let IpAddr::V6(ip) = bound.ip() else {
+            self.four += 1;
+            return false;
+        };
+        let text = ip.to_string();
+        let dotted = text.contains('.');
+        let mapped = ip.segments()[..6] == [0, 0, 0, 0, 0, 0xFFFF];
+        self.six += 1;
+        self.shortened += usize::from(text.contains("::"));
+        self.mapped += usize::from(mapped && dotted);
+        self.dotted += usize::from(mapped != dotted);
+        self.compatible += usize::from(ip.segments()[..6] == [0; 6]);
+        dotted
+    }
+
+    fn text(&self) -> String {
+        format!(
+            "{} IPv4 addresses, {} of IPv6, {} of these shortened, {} IPv4-compatible\n\
+            {} IPv4-mapped, ::ffff:0:0/96, which Display writes with a dotted tail: set aside and read back\n\
+            {} others with a dotted tail, or IPv4-mapped ones without",
+            self.four, self.six, self.shortened, self.compatible, self.mapped, self.dotted
+        )
+    }
+
+    fn differ(&mut self, number: u64, bound: SocketAddr, [wanted, line, modelled]: [&str; 3]) {
+        self.differences += 1;
+        if self.differences <= SHOWN {
+            println!("difference: address {number}, Display {bound}");
+            println!("  expected {wanted}\n  line     {line}\n  model    {modelled}");
+        }
+    }
+}
+
+// The line's text, if it has one.
+fn told(line: &str) -> Option<String> {
+    let digits = line.rsplit(' ').next()?;
+    let byte = |at: usize| u8::from_str_radix(digits.get(at..at + 2)?, 16).ok();
+    String::from_utf8((0..digits.len()).step_by(2).map(byte).collect::<Option<_>>()?).ok()
+}
+
+// What the text must be. Where `Display` has a dotted tail: the line's own, if it has no dot and is read back.
+fn wanted(bound: SocketAddr, aside: bool, line: &str) -> String {
+    let reads = |text: &String| !text.contains('.') && text.parse() == Ok(bound);
+    if aside { told(line).filter(reads).unwrap_or_default() } else { bound.to_string() }
+}
+
+// A line for each case: replay's, or the model's without it.
+fn lines(replay: Option<&str>, cases: &[Case]) -> Vec<String> {
+    match replay {
+        Some(replay) => ask(replay, cases),
+        None => cases.iter().map(|case| model::answer(case).text()).collect(),
+    }
+}
+
+// Answers whether all is the same. With `plant`, one digit is put into the expected text from that number on, once.
+pub fn random(seed: u64, count: u64, replay: Option<&str>, mut plant: Option<u64>) -> bool {
+    let mut figures = Figures::default();
+    let all = count + count.div_ceil(SIXES);
+    for start in (0..all).step_by(BATCH as usize) {
+        let numbers = start..(start + BATCH).min(all);
+        let (cases, drawn): (Vec<_>, Vec<_>) = numbers.clone().map(|n| draw(seed, n)).unzip();
+        let lines = lines(replay, &cases);
+        for (((number, case), bound), line) in numbers.zip(&cases).zip(drawn).zip(&lines) {
+            let aside = figures.add(bound);
+            let mut text = wanted(bound, aside, line);
+            if !aside && plant.take_if(|n| *n <= number).is_some() {
+                text.insert(1, '0');
+            }
+            let model = model::answer(case);
+            let modelled = model.text();
+            let wanted = Line { bound: Some((0, text.into_bytes())), ..model }.text();
+            if *line != wanted || modelled != wanted {
+                figures.differ(number, bound, [&wanted, line, &modelled]);
+            }
+        }
+    }
+    println!("{}", figures.text());
+    println!("seed {seed}: {all} addresses, {} differences", figures.differences);
+    figures.differences == 0 && figures.dotted == 0
+}

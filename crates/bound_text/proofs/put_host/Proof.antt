@@ -1,0 +1,64 @@
+use Rattle.bound_text.proofs.Texts.{host-four, host-six, host-name, adds}
+use native.Mathlib.Omega.{arith}
+use borrow.Author.Needs.{needs}
+use Rattle.bound_text.proofs.put_host.Statement.{statement}
+use Rattle.bound_text.proofs.put_host.Tie as tie
+
+enum-told : tie.Need-enum-told
+enum-told c = search needs
+
+put-ipv4-requires : tie.Need-put-ipv4-requires
+put-ipv4-requires c κs = (rw (c .before .enum-told .given .1) at (c .before .before .before .before .before .pre .0), search needs)
+
+enum-told-2 : tie.Need-enum-told-2
+enum-told-2 c = search needs
+
+put-ipv6-requires : tie.Need-put-ipv6-requires
+put-ipv6-requires c κs = (rw (c .before .enum-told2 .given .1) at (c .before .before .before .before .before .pre .0), search needs)
+
+enum-told-3 : tie.Need-enum-told-3
+enum-told-3 c = search needs
+
+copy-requires : tie.Need-copy-requires
+copy-requires c κs = search needs
+
+same-length : tie.Need-same-length
+same-length c = search needs
+
+returns : tie.Need-returns
+returns c =
+    let a = c .before .before .before .before .before .before .before .before .args in
+    (search needs, rw (host-four (a .kind) (a .bytes .now) (c .before .before .before .before .enum-told .given .1)) (c .before .before .put-ipv4 .ensures .1))
+
+same-length-2 : tie.Need-same-length-2
+same-length-2 c = search needs
+
+returns-2 : tie.Need-returns-2
+returns-2 c =
+    let a = c .before .before .before .before .before .before .before .before .args in
+    (search needs, rw (host-six (a .kind) (a .bytes .now) (c .before .before .before .before .enum-told2 .given .1)) (c .before .before .put-ipv6 .ensures .1))
+
+same-length-3 : tie.Need-same-length-3
+same-length-3 c = search needs
+
+returns-3 : tie.Need-returns-3
+returns-3 c =
+    let a = c .before .before .before .before .before .before .before .before .args in
+    (omega (arith, c .before .before .copy .ensures .place), rw (host-name (a .kind) (a .bytes .now) (c .before .before .before .before .enum-told3 .given .1)) (adds (c .before .before .copy .ensures)))
+
+pub put-host-spec : {M : Type 1} → statement M
+put-host-spec =
+    tie.close
+    (tie.spec
+    enum-told
+    put-ipv4-requires
+    enum-told-2
+    put-ipv6-requires
+    enum-told-3
+    copy-requires
+    same-length
+    returns
+    same-length-2
+    returns-2
+    same-length-3
+    returns-3)

@@ -1,0 +1,5 @@
+pub mod Text
+pub mod Shortened
+pub mod ReadBack
+pub mod Written
+pub mod Examples

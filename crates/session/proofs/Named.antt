@@ -1,0 +1,48 @@
+-- F-1: what a session that is open hands out of its bound address, and one that is not.
+use Prim.Native.Nat.{ℕ, min, zero-le}
+use mathlib.Core.Path.{_≡_, refl, ap, sym, _∙_}
+use mathlib.Core.Bool.{Bool, true, false, true≢false}
+use mathlib.Core.List.{List}
+use lib.ListN.{length, take}
+use Rattle.protocol.specs.declared.Address.{Address}
+use Rattle.protocol.specs.declared.Bound.{Bound}
+use Rattle.protocol.specs.declared.Answer.the-variants.{Refused}
+use Rattle.protocol.specs.declared.SocksError.the-variants.{NotOpen}
+use Rattle.protocol.specs.Requests.{kindOf}
+use Rattle.protocol.specs.Bound.{endpoint, unbound, addressOf}
+use Rattle.protocol.specs.Client.{boundIn}
+use Rattle.sending.specs.declared.Stage.{Stage}
+use Rattle.sending.specs.declared.Stage.the-variants.{Awaiting, Open, Failed}
+use Rattle.sending.specs.Stages.{viewAt}
+use Rattle.bound_text.specs.declared.Written.{Written}
+use Rattle.bound_text.specs.Text.{boundText}
+use Rattle.bound_text.specs.Written.{writeText, Writes}
+use Rattle.session.specs.declared.Session.{Session}
+use Rattle.session.specs.Session.{bound, isOpen, writeBound}
+use Rattle.session.proofs.Deliveries.{take-least}
+
+-- by the stage
+unnamed : (stage : Stage) (b : Bound) (h : List ℕ) → isOpen stage ≡ false → unbound ≡ boundIn (viewAt stage b h)
+unnamed (Awaiting e) b h q = refl
+unnamed Open b h q = absurd (true≢false q)
+unnamed (Failed x) b h q = refl
+
+named : (stage : Stage) (b : Bound) (h : List ℕ) → isOpen stage ≡ true → endpoint (kindOf (b .kind) h) (b .port) ≡ boundIn (viewAt stage b h)
+named (Awaiting e) b h q = absurd (true≢false (sym q))
+named Open b h q = refl
+named (Failed x) b h q = absurd (true≢false (sym q))
+
+module _ (s : Session) {o : Bool} (e : o ≡ isOpen (s .stage)) where
+  pub not-bound : o ≡ false → addressOf unbound ≡ bound s
+  not-bound q = ap addressOf (unnamed (s .stage) (s .bound) (take (s .held) (s .hold)) (sym e ∙ q))
+
+  pub bound-is : o ≡ true → {n : ℕ} → n ≡ min (s .held) 261 → length (s .hold) ≡ 261 → addressOf (endpoint (kindOf (s .bound .kind) (take n (s .hold))) (s .bound .port)) ≡ bound s
+  bound-is q p l = rw (p, take-least (s .held) (s .hold) l) (ap addressOf (named (s .stage) (s .bound) (take (s .held) (s .hold)) (sym e ∙ q)))
+
+  pub not-written : o ≡ false → (buffer : List ℕ) → Writes (writeBound s buffer) (record { answer = Refused NotOpen; len = 0 }) buffer
+  unfolding writeBound
+  not-written q buffer = rw (sym e ∙ q) (record { returned = refl; buffer = refl; inside = zero-le })
+
+  pub written : o ≡ true → (buffer : List ℕ) {buffer′ : List ℕ} {a : Address} {r : Written} → a ≡ bound s → Writes (writeText (boundText a) buffer) r buffer′ → Writes (writeBound s buffer) r buffer′
+  unfolding writeBound
+  written q buffer p w = rw (sym e ∙ q, ← p) w
