@@ -6,6 +6,8 @@ pub const OPTIMISTIC: u8 = 4;
 pub const PORT: u8 = 8;
 pub const END: u8 = 16;
 pub const TEXT: u8 = 32;
+// adds no bytes to the case
+pub const ATTEMPTS: u8 = 64;
 
 // Output or a text buffer lent above this counts as this.
 const MOST_LENT: u16 = 2048;

@@ -1,5 +1,5 @@
 //! Random cases: the original and the model against each other, and `replay` against both.
-use crate::case::{Case, TEXT, hex, lent};
+use crate::case::{ATTEMPTS, Case, TEXT, hex, lent};
 use crate::expect::expect;
 use crate::model::Line;
 use crate::shrink::{Differs, shrink};
@@ -69,6 +69,24 @@ fn first_difference(replay: &str, cases: &[Case], planted: bool) -> Option<usize
     (0..cases.len().min(lines.len() + 1)).find(|at| wrong(*at))
 }
 
+// ---- the attempts
+
+// The line with the attempts, asked for or not.
+fn counted(case: &Case) -> Line {
+    model::answer(&Case { flags: case.flags | ATTEMPTS, ..case.clone() })
+}
+
+// How many more attempts than accepted deliveries of nonempty pieces, by that line.
+fn excess(case: &Case, line: &Line) -> isize {
+    let brought = case.deliveries.iter().zip(&line.answers).filter(|(d, answer)| **answer == 0 && !d.piece.is_empty());
+    line.attempts.unwrap_or(0) as isize - brought.count() as isize
+}
+
+// At most three by request F-11; and each of these deliveries is an attempt.
+fn bounded(case: &Case) -> bool {
+    (0..=3).contains(&excess(case, &counted(case)))
+}
+
 // ---- figures
 
 #[derive(Default)]
@@ -83,9 +101,13 @@ struct Figures {
     outcomes: BTreeMap<Option<u8>, usize>,
     statuses: BTreeMap<u8, usize>,
     texts: BTreeMap<u8, usize>,
+    counted: usize,
+    most_attempts: usize,
+    excesses: BTreeMap<isize, usize>,
 }
 
 impl Figures {
+    // The line has the attempts, asked for or not.
     fn add(&mut self, case: &Case, line: &Line) {
         let asked = model::delivery_asks(case);
         let single = case.deliveries.iter().all(|d| lent(d.lent) < asked || d.piece.len() <= 1);
@@ -105,6 +127,9 @@ impl Figures {
         if let Some((answer, _)) = line.bound {
             *self.texts.entry(answer).or_default() += 1;
         }
+        self.counted += usize::from(case.has(ATTEMPTS));
+        self.most_attempts = self.most_attempts.max(line.attempts.unwrap_or(0));
+        *self.excesses.entry(excess(case, line)).or_default() += 1;
     }
 
     fn text(&self) -> String {
@@ -112,14 +137,12 @@ impl Figures {
             None => format!("waiting {count}"),
             Some(n) => format!("{n}: {count}"),
         });
-        let counts = |of: &BTreeMap<u8, usize>| {
-            of.iter().map(|(n, count)| format!("{n}: {count}")).collect::<Vec<_>>().join(", ")
-        };
         format!(
             "{} told by the Rust too, {} by the model alone where the Rust ends with WouldOverflow\n\
             {} whose start is refused with 1, {} that lend it as little and that preparing refuses\n\
             {} in pieces of one byte, {} bytes in all, at most {} sent over v5\noutcomes: {}\nstatuses: {}\n\
-            answers of the text: {}",
+            answers of the text: {}\n{} ask for the attempts\n\
+            attempts of all: at most {}, above the accepted deliveries of nonempty pieces by {}",
             self.told,
             self.overflows,
             self.refused,
@@ -129,9 +152,16 @@ impl Figures {
             self.most_sent,
             outcomes.collect::<Vec<_>>().join(", "),
             counts(&self.statuses),
-            counts(&self.texts)
+            counts(&self.texts),
+            self.counted,
+            self.most_attempts,
+            counts(&self.excesses)
         )
     }
+}
+
+fn counts<T: std::fmt::Display>(of: &BTreeMap<T, usize>) -> String {
+    of.iter().map(|(n, count)| format!("{n}: {count}")).collect::<Vec<_>>().join(", ")
 }
 
 // ---- a run
@@ -162,10 +192,15 @@ impl Run {
         self.shown.push(small);
     }
 
-    // The original against the model.
+    // The original against the model, and the model's attempts against their bound.
     fn check(&mut self, number: u64, case: &Case) {
-        let line = model::answer(case);
-        self.figures.add(case, &line);
+        self.figures.add(case, &counted(case));
+        if !bounded(case) {
+            self.show(number, case, &|cases| cases.iter().position(|c| !bounded(c)), &|small| {
+                let line = counted(small);
+                [format!("model    {}", line.text()), format!("excess   {}", excess(small, &line))]
+            });
+        }
         if expect(case).is_ok() {
             return;
         }
@@ -224,7 +259,7 @@ fn endings(replay: &str, case: &Case) -> (usize, usize) {
 fn many_records(replay: &str, case: &Case) -> (usize, usize) {
     let (bytes, good) = (case.bytes(), model::answer(case).text());
     let wanted = [good.clone(), format!("too many records at {}", bytes.len()), good];
-    let ways = [9, 10, 255].map(|n| [(n, case.flags), (n, case.flags & !TEXT)]).concat();
+    let ways = [9, 10, 255].map(|n| [0, TEXT, ATTEMPTS, TEXT | ATTEMPTS].map(|off| (n, case.flags & !off))).concat();
     let bad = ways.iter().filter(|(n, flags)| {
         let many = Case { flags: *flags, records: vec![(6, [1; 16]); *n], ..case.clone() };
         run(replay, [&bytes[..], &many.bytes(), &bytes].concat()) != wanted
@@ -246,7 +281,8 @@ pub fn random(seed: u64, count: u64, replay: Option<String>, plant: Option<u64>)
     println!("{}", run.figures.text());
     if let Some(replay) = &run.replay {
         let small = |case: &Case| {
-            case.bytes().len() < 200 && case.has(TEXT) && !case.records.is_empty() && case.deliveries.len() > 1
+            let asks = case.has(TEXT) && case.has(ATTEMPTS);
+            case.bytes().len() < 200 && asks && !case.records.is_empty() && case.deliveries.len() > 1
         };
         let case = (0..).map(|n| generate::case(seed, n)).find(small).unwrap();
         let (tried, bad) = endings(replay, &case);

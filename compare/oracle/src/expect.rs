@@ -1,7 +1,7 @@
 //! The expected line of a case: the model's, held against the original where that can tell.
 //! What leaves the comparison shows by what the original does. A session that it ends with `WouldOverflow` goes on here,
 //! as the RFCs have it: the model judges it. One whose v4 address announces a name is refused with 23.
-//! The original tells no bound address: the text and its answer are the model's alone.
+//! The original tells no bound address and no attempts: the text, its answer and the count are the model's alone.
 use crate::case::{Case, LOCAL_LOOKUP};
 use crate::model::{self, Line};
 use crate::rust::{self, Told};

@@ -17,19 +17,32 @@ const TEXTS: [u16; 12] = [0, 1, 2, 47, 48, 260, 261, 262, 2047, 2048, 2049, 6553
 
 type Lent = (&'static [u16], &'static [u16]);
 
-// About half of the cases ask for the text.
+// About half of the cases ask for the text, and about half of either for the attempts.
 pub fn case(seed: u64, number: u64) -> Case {
     let mut r = Random::new(seed, number);
-    let mut case = untold(&mut r);
+    let mut case = uncounted(&mut r);
     if r.once_in(2) {
-        ask(&mut r, &mut case);
+        case.flags |= ATTEMPTS;
     }
     case
 }
 
-// A case that does not ask for the text.
+// The same, but for the attempts.
+pub fn textual(seed: u64, number: u64) -> Case {
+    uncounted(&mut Random::new(seed, number))
+}
+
+// A case that asks for neither.
 pub fn plain(seed: u64, number: u64) -> Case {
     untold(&mut Random::new(seed, number))
+}
+
+fn uncounted(r: &mut Random) -> Case {
+    let mut case = untold(r);
+    if r.once_in(2) {
+        ask(r, &mut case);
+    }
+    case
 }
 
 fn untold(r: &mut Random) -> Case {

@@ -7,13 +7,15 @@ use std::collections::{BTreeMap, HashSet};
 use std::fs;
 use std::net::Ipv4Addr;
 
-// Those that do not ask for the text. Random cases fill them up, as far as they are small.
+// Those that ask for neither text nor attempts. Random cases fill them up, as far as they are small.
 const CASES: usize = 2780;
 const SMALL: usize = 500;
-// Random cases that do ask, behind the others.
+// Random cases that ask for the text, behind the others; and those that ask for the attempts, behind these.
 const ASKING: usize = 150;
+const COUNTING: usize = 60;
 
 const OPENS4: [u8; 8] = [0, 90, 0, 80, 10, 0, 0, 1];
+const IPV4_REPLY: [u8; 10] = [5, 0, 0, 1, 192, 0, 2, 7, 31, 144];
 const IPV6_REPLY: [u8; 22] = [5, 0, 0, 4, 32, 1, 13, 184, 0, 0, 0, 0, 0, 0, 0, 0, 0, 0, 0, 1, 0, 80];
 const SHORT_NAME: [u8; 8] = [5, 0, 0, 3, 1, b'x', 0, 80];
 
@@ -433,13 +435,12 @@ fn replies4(list: &mut List) {
 
 // Whole handshakes: every prefix, every cut in two, byte by byte, with noise between, with bytes behind.
 fn pieces(list: &mut List) {
-    let four = [5, 0, 0, 1, 192, 0, 2, 7, 31, 144];
     let with = base(5).host(b"192.0.2.7").credentials(1, 2);
     let handshakes = [
-        (base(5).host(b"192.0.2.7"), [&[5, 0], &four[..], b"SDF"].concat()),
+        (base(5).host(b"192.0.2.7"), [&[5, 0], &IPV4_REPLY[..], b"SDF"].concat()),
         (base(5), [&[5, 0], &IPV6_REPLY[..], b"S"].concat()),
         (with.clone(), [&[5, 2, 1, 0], &SHORT_NAME[..], b"SDF"].concat()),
-        (with.flag(OPTIMISTIC), [&[5, 2, 1, 0], &four[..], b"SDF"].concat()),
+        (with.flag(OPTIMISTIC), [&[5, 2, 1, 0], &IPV4_REPLY[..], b"SDF"].concat()),
         (base(4), [&OPENS4[..], b"SDF"].concat()),
     ];
     for (case, stream) in handshakes {
@@ -618,10 +619,17 @@ fn not_open(list: &mut List) {
         list.add(case.clone().piece(reply).asks(2048));
         list.add(case.piece(reply).flag(END).asks(0));
     }
-    // each number of preparing
+    for case in unprepared() {
+        list.add(case.clone().asks(2048));
+        list.add(served(case.flag(END)).asks(0));
+    }
+}
+
+// Each number of preparing.
+fn unprepared() -> Vec<Case> {
     let mut no_port = base(5);
     no_port.flags &= !PORT;
-    for case in [
+    vec![
         base(5).host(b""),
         base(5).host(b"a b"),
         no_port,
@@ -633,10 +641,7 @@ fn not_open(list: &mut List) {
         base(4).host(&[b'n'; 1015]),
         base(4).flag(LOCAL_LOOKUP).records("6"),
         base(4).host(b"0.0.0.5"),
-    ] {
-        list.add(case.clone().asks(2048));
-        list.add(served(case.flag(END)).asks(0));
-    }
+    ]
 }
 
 fn bound_six(list: &mut List) {
@@ -742,6 +747,177 @@ fn bound_names_told(list: &mut List) {
     }
 }
 
+// ---- the attempts
+
+// A session of each kind, and the replies that open it; request F-11's first.
+fn counted_sessions() -> Vec<(Case, Vec<&'static [u8]>)> {
+    let with = base(5).credentials(1, 2);
+    let mut all: Vec<(Case, Vec<&[u8]>)> = vec![
+        (base(5).host(b"192.0.2.7"), vec![&[5, 0], &IPV4_REPLY]),
+        (base(5).flag(OPTIMISTIC), vec![&[5, 0], &IPV6_REPLY]),
+        (with.clone(), vec![&[5, 2], &[1, 0], &IPV4_REPLY]),
+        (with.flag(OPTIMISTIC), vec![&[5, 2], &[1, 0], &SHORT_NAME]),
+        (base(4), vec![&OPENS4]),
+    ];
+    all.iter_mut().for_each(|(case, _)| case.flags |= ATTEMPTS);
+    all
+}
+
+// Byte by byte, in one piece, reply by reply, with bytes behind; every prefix and every cut in two.
+fn counted_pieces(list: &mut List) {
+    for (case, replies) in counted_sessions() {
+        let stream = replies.concat();
+        let behind = [&stream[..], b"SDF"].concat();
+        list.add(case.clone().each_byte(&stream));
+        list.add(case.clone().piece(&stream));
+        list.add(replies.iter().fold(case.clone(), |case, reply| case.piece(reply)));
+        list.add(case.clone().each_byte(&behind).flag(END));
+        list.add(case.clone().piece(&behind));
+        for n in 0..=stream.len() {
+            let (before, later) = behind.split_at(n);
+            list.add(case.clone().piece(before));
+            list.add(case.clone().each_byte(before).flag(END));
+            list.add(case.clone().piece(before).piece(later));
+        }
+    }
+}
+
+// What adds nothing: an empty piece, a delivery that lends too little, one to a session that is open; an end.
+fn counted_noise(list: &mut List) {
+    for (case, replies) in counted_sessions() {
+        let stream = replies.concat();
+        let (_, asked) = asked(&case);
+        list.add(case.clone().piece(b""));
+        list.add(case.clone().piece(b"").piece_lent(asked, b"").piece_lent(0, b"").flag(END));
+        list.add(case.clone().piece_lent(asked - 1, &stream));
+        list.add(case.clone().piece_lent(asked - 1, &stream).flag(END));
+        for n in [0, 1, 2, 3, 5, stream.len() - 1, stream.len()] {
+            let (before, later) = stream.split_at(n);
+            let empty = case.clone().piece(before).piece_lent(asked, b"");
+            list.add(empty.clone());
+            list.add(empty.piece(later).piece(b"").flag(END));
+            let short = case.clone().piece(before).piece_lent(asked - 1, later).piece_lent(0, &stream);
+            list.add(short.clone().flag(END));
+            list.add(short.piece_lent(asked, later).piece_lent(asked - 1, b"lost"));
+        }
+        let noisy = |case: Case, b: &u8| case.piece(b"").piece_lent(asked - 1, &[*b]).piece_lent(asked, &[*b]);
+        list.add(stream.iter().fold(case.clone(), noisy));
+        let open = case.piece(&stream);
+        list.add(open.clone().flag(END));
+        list.add(open.clone().piece(&stream));
+        list.add(open.each_byte(&stream).piece(b"").piece_lent(0, b"xy").flag(END));
+    }
+}
+
+// At the first reply, the second and the third: in one piece, byte by byte, cut in two, with more behind.
+fn counted_failures(list: &mut List) {
+    let with = base(5).credentials(1, 1);
+    let start = |case: &Case| if case.has(CREDENTIALS) { vec![5, 2, 1, 0] } else { vec![5, 0] };
+    let mut all = vec![];
+    for case in [base(5), base(5).flag(OPTIMISTIC), with.clone(), with.clone().flag(OPTIMISTIC)] {
+        let wrong = if case.has(CREDENTIALS) { 0 } else { 2 };
+        all.extend([[5, 0xFF], [5, 1], [5, wrong], [4, 0]].map(|reply| (case.clone(), reply.to_vec())));
+        let connects: [&[u8]; 7] = [
+            &[5, 9, 0],
+            &[5, 0, 1],
+            &[5, 0, 0, 2, 0],
+            &[5, 0, 0, 3, 0],
+            &[5, 1, 0, 1, 192, 0, 2, 7, 31, 144],
+            &[5, 8, 0, 3, 1, b'x', 0, 80],
+            &[5, 0, 0, 3, 1, 0xFF, 0, 80],
+        ];
+        all.extend(connects.map(|reply| (case.clone(), [&start(&case), reply].concat())));
+    }
+    for case in [with.clone(), with.flag(OPTIMISTIC)] {
+        all.extend([[1, 7], [0, 0]].map(|reply| (case.clone(), [&[5, 2], &reply[..]].concat())));
+    }
+    for reply in [[0, 91], [0, 93], [0, 89], [4, 90]] {
+        all.push((base(4), [&reply, &OPENS4[2..]].concat()));
+    }
+    for (case, stream) in all {
+        let case = case.flag(ATTEMPTS);
+        let replies = good(&case);
+        list.add(case.clone().piece(&stream));
+        list.add(case.clone().each_byte(&stream).flag(END));
+        list.add(case.clone().piece(&[&stream, &replies[..]].concat()));
+        list.add(case.clone().each_byte(&stream).each_byte(&replies));
+        let (before, last) = stream.split_at(stream.len() - 1);
+        list.add(case.clone().piece(before).piece(b"").piece(last).piece_lent(0, &replies).piece(&replies));
+        if !case.has(OPTIMISTIC) {
+            for n in 1..before.len() {
+                let (before, later) = stream.split_at(n);
+                list.add(case.clone().piece(before).piece(later));
+            }
+        }
+    }
+}
+
+// None: a start that lends too little, and what preparing refuses, whatever is delivered.
+fn counted_refusals(list: &mut List) {
+    for (case, replies) in counted_sessions() {
+        let stream = replies.concat();
+        let (start, delivery) = asked(&case);
+        for lent in [0, start - 1] {
+            let case = case.clone().lent(lent);
+            list.add(case.clone());
+            list.add(case.clone().piece_lent(delivery, &stream));
+            list.add(case.clone().each_byte(&stream).flag(END));
+            list.add(case.piece(b"").piece_lent(delivery - 1, &stream).piece_lent(delivery, &stream).flag(END));
+        }
+    }
+    for case in unprepared() {
+        let case = case.flag(ATTEMPTS);
+        let replies = good(&case);
+        list.add(case.clone());
+        list.add(case.clone().piece(&replies));
+        list.add(case.each_byte(&replies).piece(b"").piece_lent(0, b"lost").flag(END));
+    }
+}
+
+// Names byte by byte, near a hundred attempts and up to the most of any session, 268; the longest in larger pieces too.
+fn counted_names(list: &mut List) {
+    let with = base(5).host(b"h").credentials(1, 1);
+    for case in [base(5).host(b"h"), with.clone(), with.flag(OPTIMISTIC)] {
+        let case = case.flag(ATTEMPTS);
+        let stream = |n: usize| bound_at(&case, &named(&vec![b'n'; n]), 80);
+        for n in [1, 87, 88, 89, 90, 254, 255] {
+            list.add(case.clone().each_byte(&stream(n)));
+        }
+        let longest = stream(255);
+        list.add(case.clone().each_byte(&longest[..longest.len() - 1]).flag(END));
+        list.add(case.clone().each_byte(&longest).piece(b"on").flag(END));
+        for most in [2, 3, 100, 261, 262, longest.len() - 1, longest.len()] {
+            list.add(longest.chunks(most).fold(case.clone(), |case, piece| case.piece(piece)));
+        }
+        let mut failing = longest;
+        let at = failing.len() - 3;
+        failing[at] = 0xFF;
+        list.add(case.clone().each_byte(&failing));
+        list.add(case.piece(&failing));
+    }
+}
+
+// The text and the attempts together.
+fn told_and_counted(list: &mut List) {
+    for (case, replies, n) in bound_sessions() {
+        let case = case.flag(ATTEMPTS);
+        let (start, _) = asked(&case);
+        for lent in [n, n - 1] {
+            list.add(case.clone().piece(&replies).asks(lent));
+            list.add(case.clone().each_byte(&replies).asks(lent));
+        }
+        let (before, last) = replies.split_at(replies.len() - 1);
+        list.add(case.clone().piece(before).asks(n));
+        list.add(case.clone().each_byte(before).flag(END).asks(n));
+        list.add(case.clone().piece(before).piece(&[last, b"SDF"].concat()).piece(&replies).flag(END).asks(n));
+        list.add(case.clone().lent(start - 1).piece(&replies).asks(n));
+        list.add(case.asks(n));
+    }
+    for case in unprepared() {
+        list.add(served(case).flag(ATTEMPTS).asks(2048));
+    }
+}
+
 fn cases() -> Vec<Case> {
     let mut list = List::default();
     let parts = [
@@ -776,7 +952,14 @@ fn cases() -> Vec<Case> {
         part(&mut list);
     }
     let asking = |case: &Case| small(case) && case.has(TEXT);
-    for case in (0..).map(|n| generate::case(1, n)).filter(asking).take(ASKING) {
+    for case in (0..).map(|n| generate::textual(1, n)).filter(asking).take(ASKING) {
+        list.add(case);
+    }
+    for part in [counted_pieces, counted_noise, counted_failures, counted_refusals, counted_names, told_and_counted] {
+        part(&mut list);
+    }
+    let counting = |case: &Case| small(case) && case.has(ATTEMPTS);
+    for case in (0..).map(|n| generate::case(1, n)).filter(counting).take(COUNTING) {
         list.add(case);
     }
     list.cases
@@ -788,6 +971,7 @@ pub fn write(dir: &str) -> Result<(), String> {
     let mut held: BTreeMap<String, usize> = BTreeMap::new();
     let (mut refused, mut answered) = (0, 0);
     let mut texts: BTreeMap<u8, usize> = BTreeMap::new();
+    let mut attempts = vec![];
     let cases = cases();
     for case in &cases {
         let line = expect(case)
@@ -801,6 +985,7 @@ pub fn write(dir: &str) -> Result<(), String> {
         if let Some((answer, _)) = line.bound {
             *texts.entry(answer).or_default() += 1;
         }
+        attempts.extend(line.attempts);
     }
     // a case that the program refuses, and what it must not reach
     stdout += &format!("bad case at {}\n", stdin.len());
@@ -813,6 +998,7 @@ pub fn write(dir: &str) -> Result<(), String> {
     println!("{refused} whose start is refused with 1, {answered} that answer 22 behind it");
     let answers = texts.iter().map(|(answer, n)| format!("{answer}: {n}")).collect::<Vec<_>>().join(", ");
     println!("{} that ask for the text, its answers {answers}", texts.values().sum::<usize>());
+    println!("{} that ask for the attempts, at most {}", attempts.len(), attempts.iter().max().unwrap_or(&0));
     println!("{overflows} that the Rust ends with WouldOverflow; outcome and status:");
     println!("{}", held.iter().map(|(what, n)| format!("{what}: {n}")).collect::<Vec<_>>().join(", "));
     Ok(())

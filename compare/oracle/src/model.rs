@@ -1,10 +1,10 @@
-//! Document 01 with requests F-1, F-4, F-7 and F-8 in plain Rust: what a case must answer, field by field. Written
-//! from their words, not from the original.
+//! Document 01 with requests F-1, F-4, F-7, F-8 and F-11 in plain Rust: what a case must answer, field by field.
+//! Written from their words, not from the original.
 use crate::case::*;
 use std::net::IpAddr;
 
 // The line of `replay`. No outcome is waiting, 0 is open, any other number is the failure's. The bound address's
-// answer and text, which is empty if refused, stand in it if they are asked for.
+// answer and text, which is empty if refused, stand in it if they are asked for; and so do the attempts, last.
 #[derive(Clone, PartialEq)]
 pub struct Line {
     pub rests: Vec<u8>,
@@ -16,6 +16,7 @@ pub struct Line {
     pub answers: Vec<u8>,
     pub end: Option<u8>,
     pub bound: Option<(u8, Vec<u8>)>,
+    pub attempts: Option<usize>,
 }
 
 impl Line {
@@ -26,7 +27,11 @@ impl Line {
         let end = self.end.map_or("-".into(), |n| n.to_string());
         let (rests, sent) = (hex(&self.rests), hex(&self.sent));
         let bound = self.bound.as_ref().map_or(String::new(), |(answer, text)| format!(" {answer} {}", hex(text)));
-        format!("{rests} {sent} {outcome} {} {} {} {answers} {end}{bound}", self.status, self.total, self.open)
+        let attempts = self.attempts.map_or(String::new(), |n| format!(" {n}"));
+        format!(
+            "{rests} {sent} {outcome} {} {} {} {answers} {end}{bound}{attempts}",
+            self.status, self.total, self.open
+        )
     }
 }
 
@@ -294,11 +299,13 @@ struct State {
     outcome: Option<u8>,
     status: u8,
     used: usize,
+    // replies, good or bad
+    decided: usize,
     bound: Option<(Bound, u16)>,
 }
 
 fn machine(steps: &[Step], list: &[u8]) -> State {
-    let mut now = State { sent: vec![], outcome: None, status: 0, used: 0, bound: None };
+    let mut now = State { sent: vec![], outcome: None, status: 0, used: 0, decided: 0, bound: None };
     for step in steps {
         match step {
             Step::Send(request) => now.sent.extend(request),
@@ -309,6 +316,7 @@ fn machine(steps: &[Step], list: &[u8]) -> State {
                 };
                 let read = &list[now.used..now.used + count];
                 now.used += count;
+                now.decided += 1;
                 if number != 0 {
                     (now.outcome, now.status) = (Some(number), status);
                     return now;
@@ -321,7 +329,7 @@ fn machine(steps: &[Step], list: &[u8]) -> State {
     now
 }
 
-// ---- Delivery, End of stream, Tunnel, Text
+// ---- Delivery, End of stream, Tunnel, Text, Attempts
 
 fn text(now: &State, lent: usize) -> (u8, Vec<u8>) {
     match &now.bound {
@@ -343,9 +351,10 @@ pub fn answer(case: &Case) -> Line {
         now.outcome = (open != 1).then_some(open);
     }
     let (mut joined, mut rests, mut answers) = (vec![], vec![], vec![]);
+    let mut attempts = 0;
     for d in &case.deliveries {
         let enough = lent(d.lent) >= delivery_asks(case);
-        let before = now.used;
+        let (before, decided) = (now.used, now.decided);
         if now.outcome.is_some() {
             answers.push(16);
         } else if !started {
@@ -356,6 +365,9 @@ pub fn answer(case: &Case) -> Line {
             answers.push(0);
             joined.extend(&d.piece);
             now = machine(&steps, &joined);
+            if !d.piece.is_empty() {
+                attempts += now.decided - decided + usize::from(now.outcome.is_none());
+            }
         }
         if enough {
             rests.extend(&d.piece[now.used - before..]);
@@ -370,5 +382,7 @@ pub fn answer(case: &Case) -> Line {
         now.outcome = Some(9);
     }
     let bound = case.has(TEXT).then(|| text(&now, lent(case.text_lent)));
-    Line { rests, sent: now.sent, outcome: now.outcome, status: now.status, total: now.used, open, answers, end, bound }
+    let attempts = case.has(ATTEMPTS).then_some(attempts);
+    let (sent, outcome, status, total) = (now.sent, now.outcome, now.status, now.used);
+    Line { rests, sent, outcome, status, total, open, answers, end, bound, attempts }
 }

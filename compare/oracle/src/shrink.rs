@@ -100,7 +100,7 @@ fn coarse(case: &Case) -> Vec<Case> {
 // Single bytes left out, and values made plain.
 fn fine(case: &Case) -> Vec<Case> {
     let mut all = Smaller(case, vec![]);
-    for flag in [CREDENTIALS, LOCAL_LOOKUP, OPTIMISTIC, PORT, END] {
+    for flag in [CREDENTIALS, LOCAL_LOOKUP, OPTIMISTIC, PORT, END, ATTEMPTS] {
         all.add(|c| c.flags &= !flag);
     }
     all.add(|c| (c.flags, c.text_lent) = (c.flags & !TEXT, 0));

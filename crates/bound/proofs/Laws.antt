@@ -25,7 +25,7 @@ use Rattle.wire.proofs.Parts.{take-min, part-from, drop-two, take-two}
 use Rattle.reader.specs.declared.Took.{Took}
 use Rattle.reader.specs.Reader.{byteAt}
 use Rattle.bound.specs.declared.Found.{Found}
-use Rattle.bound.specs.declared.Kept.{Kept}
+use Rattle.bound.specs.declared.Held.{Held}
 use Rattle.bound.specs.Named.{lastOf, Whole, Finds, Binds}
 
 pub byte-is : (bytes : List ℕ) (at : ℕ) {t : Took} → t ≡ byteAt bytes at → t .byte ≡ byte bytes at

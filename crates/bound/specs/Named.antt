@@ -10,7 +10,7 @@ use Rattle.protocol.specs.Requests.{kindOf}
 use Rattle.protocol.specs.Bound.{Endpoint, endpoint, bytesIn, boundOf}
 use Rattle.protocol.specs.Replies.{proxySize}
 use Rattle.bound.specs.declared.Found.{Found}
-use Rattle.bound.specs.declared.Kept.{Kept}
+use Rattle.bound.specs.declared.Held.{Held}
 
 -- the last reply to a session that waits for this one
 abbrev pub lastOf : Reply → Reply
@@ -37,7 +37,7 @@ pub record Finds (x : Endpoint) (bytes : List ℕ) (r : Found) : Type 0 where
   pub small : r .len ≤ 255
 
 -- its bytes stand at the start of a hold, of which no other byte has changed
-pub record Binds (x : Endpoint) (hold : List ℕ) (r : Kept) (hold′ : List ℕ) : Type 0 where
+pub record Binds (x : Endpoint) (hold : List ℕ) (r : Held) (hold′ : List ℕ) : Type 0 where
   pub bound : r .bound ≡ boundOf x
   pub long : r .len ≡ length (bytesIn (x .address))
   pub holds : hold′ ≡ bytesIn (x .address) ++ drop (length (bytesIn (x .address))) hold

@@ -103,14 +103,14 @@ fn keep_part(hold: &mut [u8], n: usize, piece: &[u8], from: usize, to: usize)
 }
 
 // Beside the bytes that were kept: how many they are, their kind and the port.
-pub struct Kept {
+pub struct Held {
     pub len: usize,
     pub bound: Bound,
 }
 
 // Keeps what the last reply names to a session that waits for this one. It begins at a place of the first n bytes of the hold and then a
 // piece.
-pub fn keep(reply: Reply, hold: &mut [u8], n: usize, piece: &[u8], at: usize) -> Kept
+pub fn keep(reply: Reply, hold: &mut [u8], n: usize, piece: &[u8], at: usize) -> Held
     requires { ⌜ (length (now hold) ≡ 261) × (n ≤ 261) × (at ≤ n + length (now piece)) × Whole reply (drop at (take n (now hold) ++ now piece)) ⌝ }
     ensures { λ r. ⌜ Binds (boundBy (lastOf reply) (drop at (take n (now (hold .entry)) ++ now (piece .entry)))) (now (hold .entry)) r (now (hold .exit)) ⌝ }
 {
@@ -120,7 +120,7 @@ pub fn keep(reply: Reply, hold: &mut [u8], n: usize, piece: &[u8], at: usize) ->
     let from = at + found.at;
     keep_part(hold, n, piece, from, from + found.len);
     let bound = found.bound;
-    Kept {
+    Held {
         len: found.len,
         bound: bound,
     }

@@ -85,6 +85,10 @@ ends flags = flag flags 16
 abbrev pub asksText : ℕ → Bool
 asksText flags = flag flags 32
 
+-- the number of attempts is asked for after all 64
+abbrev pub asksAttempts : ℕ → Bool
+asksAttempts flags = flag flags 64
+
 -- ---- the records
 
 abbrev pub familyOf : ℕ → Family

@@ -3,7 +3,7 @@ ghost use mathlib.Core.Path.{_≡_};
 ghost use Prim.Native.Nat.{_+_, _*_, _≤_, _<_};
 ghost use mathlib.Core.Bool.{true};
 ghost use lib.ListN.{length, getD, take, drop};
-ghost use Rattle.cases.specs.Cases.{numberAt, headOf, Ordered, isVersion, isFamily, knownFamilies, isGood, flag, configOf, portOf, ends, familyOf, recordAt, recordsAt, lentOf, deliverySize, roomOf, asksText, behindSize, textLent};
+ghost use Rattle.cases.specs.Cases.{numberAt, headOf, Ordered, isVersion, isFamily, knownFamilies, isGood, flag, configOf, portOf, ends, familyOf, recordAt, recordsAt, lentOf, deliverySize, roomOf, asksText, asksAttempts, behindSize, textLent};
 use protocol::Family;
 use protocol::Port;
 use protocol::Record;
@@ -139,6 +139,13 @@ pub fn asks_text(flags: u8) -> bool
     ensures { λ r. ⌜ r ≡ asksText flags ⌝ }
 {
     has(flags, 32)
+}
+
+// Whether the number of attempts is asked for after all.
+pub fn asks_attempts(flags: u8) -> bool
+    ensures { λ r. ⌜ r ≡ asksAttempts flags ⌝ }
+{
+    has(flags, 64)
 }
 
 fn family_of(b: u8) -> Family

@@ -1,4 +1,4 @@
-// A session from its preparing and start over its deliveries to its end and its text.
+// A session from its preparing and start over its deliveries to its end and what is asked after it.
 ghost use mathlib.Core.Path.{_≡_};
 ghost use Prim.Native.Nat.{_-_, _≤_};
 ghost use mathlib.Core.Bool.{cond};
@@ -6,13 +6,14 @@ ghost use mathlib.Core.List.{[]};
 ghost use lib.Dec.{ltb};
 ghost use lib.ListN.{length, take};
 ghost use Rattle.course.specs.Bounds.{Keeps};
-ghost use Rattle.cases.specs.Cases.{Ordered, restOf, deliverySize};
+ghost use Rattle.cases.specs.Cases.{Ordered, restOf, deliverySize, asksAttempts};
 ghost use Rattle.course.specs.Last.{lastOf};
 ghost use Rattle.numerals.specs.Added.{Adds};
 use cases::heads;
 use cases::heads::Head;
 use lines::Line;
 use protocol::Answer;
+use report::Closing;
 use report::Results;
 use socks::Prepared;
 use socks::Session;
@@ -231,23 +232,35 @@ fn bound_of(session: Session, asks: bool, out: &mut [u8]) -> Bound
     }
 }
 
-// The last session's text with all of a buffer, and the line's end.
-fn put_bound(session: Session, asks: bool, out: &mut [u8], text: &mut [u8], at: usize) -> usize
+// What the flags ask of the last session, whose text is told already.
+fn closing_of(session: Session, flags: u8, bound: Bound) -> Closing
+    ensures { λ r. ⌜ (r .texts ≡ bound .asked) × ((r .answer ≡ bound .answer) × ((r .counts ≡ asksAttempts flags) × (r .attempts ≡ session .attempts))) ⌝ }
+{
+    Closing {
+        texts: bound.asked,
+        answer: bound.answer,
+        counts: heads::asks_attempts(flags),
+        attempts: session.attempts(),
+    }
+}
+
+// What the flags ask of the last session, its text with all of a buffer, and the line's end.
+fn put_asked(session: Session, flags: u8, out: &mut [u8], text: &mut [u8], at: usize) -> usize
     requires { ⌜ (length (now out) ≤ 2048) × ((at ≤ length (now text)) × (300000 ≤ length (now text))) ⌝ }
     ensures { λ r. ⌜ r ≤ length (now (text .entry)) ⌝ }
 {
-    let bound = bound_of(session, asks, out);
+    let bound = bound_of(session, heads::asks_text(flags), out);
     let len = bound.len;
-    lines::close_line(bound.asked, bound.answer, &out[..len], text, at)
+    lines::close_line(closing_of(session, flags, bound), &out[..len], text, at)
 }
 
 // What closes the line of a case, with its text's buffer lent as far as the case says.
-fn close_course(session: Session, asks: bool, lent: usize, text: &mut [u8], at: usize) -> usize
+fn close_course(session: Session, flags: u8, lent: usize, text: &mut [u8], at: usize) -> usize
     requires { ⌜ (lent ≤ 2048) × ((at ≤ length (now text)) × (300000 ≤ length (now text))) ⌝ }
     ensures { λ r. ⌜ r ≤ length (now (text .entry)) ⌝ }
 {
     let mut out = output();
-    put_bound(session, asks, &mut out[..lent], text, at)
+    put_asked(session, flags, &mut out[..lent], text, at)
 }
 
 // The line of a case of so many deliveries, up to what closes it.
@@ -287,5 +300,5 @@ pub fn finish(course: Course, close: Close, kept: &[u8], text: &mut [u8]) -> usi
     let last = last_of(session, heads::ends(close.flags));
     let end = last.session;
     let at = put_course(course, last, close.opened, close.count, kept, text);
-    close_course(end, heads::asks_text(close.flags), close.lent, text, at)
+    close_course(end, close.flags, close.lent, text, at)
 }

@@ -7,6 +7,7 @@ ghost use lib.ListN.{length};
 ghost use Rattle.lines.specs.Lines.{Within};
 use libc::STDOUT_FILENO;
 use numerals::put_hex;
+use report::Closing;
 use report::Results;
 use report::put_answers;
 use report::put_close;
@@ -127,11 +128,11 @@ pub fn put_line(line: Line, results: Results, answers: &[u8], sent: &[u8], text:
     put_answers(answers, results.ended, results.answer, text, next)
 }
 
-// What closes a line: a text's answer and bytes, if that was asked for, and the line's end.
-pub fn close_line(asked: bool, answer: u8, bytes: &[u8], text: &mut [u8], at: usize) -> usize
+// What closes a line: what was asked for after all, and the line's end.
+pub fn close_line(closing: Closing, bytes: &[u8], text: &mut [u8], at: usize) -> usize
     requires { ⌜ (at ≤ length (now text)) × ((length (now bytes) ≤ 2048) × (8192 ≤ length (now text))) ⌝ }
     ensures { λ r. ⌜ r ≤ length (now (text .entry)) ⌝ }
 {
-    let from = room(text, at, 2 * bytes.len() + 30);
-    put_close(asked, answer, bytes, text, from)
+    let from = room(text, at, 2 * bytes.len() + 50);
+    put_close(closing, bytes, text, from)
 }

@@ -106,6 +106,7 @@ pub fn prepared(begun: Begun, bytes: [u8; 1024]) -> Prepared
                 kind: AddressKind::Ipv4,
                 port: 0,
             },
+            attempts: 0,
             requests: Requests {
                 lengths: lengths,
                 bytes: bytes,

@@ -1,8 +1,8 @@
 -- The client's side is lawful, and fed with bytes it does what the plain machine does.
-use Prim.Native.Nat.{ℕ, _+_}
+use Prim.Native.Nat.{ℕ, suc, _+_, _≤_}
 use native.Mathlib.Nat.{add-zero, zero-add}
 use native.Mathlib.Omega.{arith}
-use mathlib.Core.Path.{_≡_, refl, sym, _∙_}
+use mathlib.Core.Path.{_≡_, refl, ap, sym, _∙_}
 use mathlib.Core.Bool.{Bool, true, false}
 use mathlib.Core.List.{List, [], _∷_, _++_, append-assoc, append-nil}
 use lib.ListN.{length, take, drop}
@@ -18,12 +18,13 @@ use Rattle.protocol.specs.declared.Decision.the-variants.{Undecided, Dec
 use Rattle.protocol.specs.Bound.{Endpoint, unbound, proxyBound, responseBound, boundBy}
 use Rattle.protocol.specs.Opening.{noAuth, userPass, Opening, v5, v4, replies, atOpening, later}
 use Rattle.protocol.specs.Replies.{decide}
-use Rattle.protocol.specs.Machine.{Machine, has, sends, reads, run, machine, usedBy, used}
+use Rattle.protocol.specs.Machine.{Machine, has, sends, reads, run, machine, usedBy, used, decides, decisions, decidedOn}
 use Rattle.protocol.specs.Agreement.{asMachine}
 use Rattle.protocol.specs.Client.{Kept, ClientTalk, due, atProxyRes, atAuthenticationRes, afterMethod, talkAt, told, client, kept, begun, side, outcomeOf, boundIn}
 use Rattle.protocol.proofs.Replies.{extends}
 use Rattle.talk.specs.Talk.{done, failed, stop, send, await, Session, waiting, ended, Fed, deciding, feed, isOver, reached}
 use Rattle.talk.specs.Lawful.{Shaped, Lawful}
+use Rattle.talk.specs.Attempts.{counting, decidedIn}
 use Rattle.talk.proofs.Feed.{feed-exact}
 
 -- ---- lawful
@@ -105,6 +106,28 @@ module _ (c : Kept) where
       (run-feed es (drop 1 left) (boundBy e m) (u m) (sends (take 1 left) sent) (place + n) bs (f m .1)
       ∙ sends-feed (take 1 left) sent (place + n) (drop (place + n) bs) (u m))))
 
+  -- F-11: and decides as many replies
+  counts-feed : (d : Decision) (on next : ℕ → ℕ) → ((n : ℕ) → d ≡ Decided n Good → next n ≡ on n) → decides d next ≡ counting (told d) on
+  counts-feed Undecided on next h = refl
+  counts-feed (Decided n Good) on next h = ap suc (h n refl)
+  counts-feed (Decided n (Bad e)) on next h = refl
+
+  goes-decides : (qs : List (List ℕ)) (t : ClientTalk) (bs : List ℕ) → decidedIn (client c) (goes qs t) bs ≡ decidedIn (client c) t bs
+  unfolding decidedIn
+  goes-decides [] t bs = refl
+  goes-decides (q ∷ qs) t bs = goes-decides qs t bs
+
+  run-decides : (es : List Reply) (left : List (List ℕ)) (x : Endpoint) (t : ClientTalk) (place : ℕ) (bs : List ℕ)
+      → Follows es left x t → decisions es place bs ≡ decidedIn (client c) t (drop place bs)
+  unfolding decisions decidedIn
+  run-decides [] left x t place bs e = rw e
+  run-decides (e ∷ es) left x t place bs (k, u, w, f) =
+      rw w
+      (counts-feed (decide e (drop place bs)) (λ n. decidedIn (client c) (k (take n (drop place bs))) (drop n (drop place bs))) (λ n. decisions es (place + n) bs)
+      (λ n i.
+      let m = take n (drop place bs) in
+      rw (f m .0, drop-drop n place bs) (run-decides es (drop 1 left) (boundBy e m) (u m) (place + n) bs (f m .1) ∙ sym (goes-decides (take 1 left) (u m) (drop (place + n) bs)))))
+
 -- ---- the openings' talks follow their replies and requests
 
 firstReply : Opening → Reply
@@ -163,3 +186,26 @@ pub used-feed : (o : Opening) (bs : List ℕ) → used o bs ≡ reached (feed (s
 unfolding used
 used-feed o bs =
     rw (machine-feed o bs) (used-reached (feed (side o) (begun o) bs) bs (feed-exact (side o) (client-lawful (kept o)) (begun o) bs))
+
+pub decided-feed : (o : Opening) (bs : List ℕ) → decidedOn o bs ≡ decidedIn (side o) (begun o) bs
+unfolding decidedOn
+decided-feed o bs =
+    rw (begun-goes o)
+    (run-decides (kept o) (replies o) (later o) unbound (talkAt (kept o) (firstReply o)) 0 bs (follows o) ∙ sym (goes-decides (kept o) (atOpening o) (talkAt (kept o) (firstReply o)) bs))
+
+-- no more than it expects
+decides-most : (d : Decision) (on : ℕ → ℕ) (k : ℕ) → ((n : ℕ) → on n ≤ k) → decides d on ≤ suc k
+decides-most Undecided on k h = omega arith
+decides-most (Decided n Good) on k h = omega (arith, h n)
+decides-most (Decided n (Bad e)) on k h = omega arith
+
+decisions-most : (es : List Reply) (place : ℕ) (bs : List ℕ) → decisions es place bs ≤ length es
+unfolding decisions
+decisions-most [] place bs = omega arith
+decisions-most (e ∷ es) place bs = decides-most (decide e (drop place bs)) (λ n. decisions es (place + n) bs) (length es) (λ n. decisions-most es (place + n) bs)
+
+pub decided-three : (o : Opening) (bs : List ℕ) → decidedOn o bs ≤ 3
+unfolding decidedOn
+decided-three (v5 noAuth d port o) bs = omega (arith, decisions-most (replies (v5 noAuth d port o)) 0 bs)
+decided-three (v5 (userPass u p) d port o) bs = decisions-most (replies (v5 (userPass u p) d port o)) 0 bs
+decided-three (v4 d port) bs = omega (arith, decisions-most (replies (v4 d port)) 0 bs)

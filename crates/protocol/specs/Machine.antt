@@ -1,5 +1,5 @@
 -- Document 01, "The plain machine".
-use Prim.Native.Nat.{ℕ, _+_}
+use Prim.Native.Nat.{ℕ, suc, _+_}
 use mathlib.Core.List.{List, [], _∷_, _++_}
 use lib.ListN.{length, take, drop}
 use Rattle.protocol.specs.declared.Reply.{Reply}
@@ -53,3 +53,16 @@ usedBy (Failed e) place bs = place
 
 unfoldable pub used : Opening → List ℕ → ℕ
 used o bs = usedBy (machine o bs .outcome) (machine o bs .place) bs
+
+-- F-11: how many replies it decides, good or bad
+abbrev pub decides : Decision → (ℕ → ℕ) → ℕ
+decides Undecided on = 0
+decides (Decided n Good) on = suc (on n)
+decides (Decided n (Bad e)) on = 1
+
+unfoldable pub decisions : List Reply → ℕ → List ℕ → ℕ
+decisions [] place bs = 0
+decisions (e ∷ es) place bs = decides (decide e (drop place bs)) (λ n. decisions es (place + n) bs)
+
+unfoldable pub decidedOn : Opening → List ℕ → ℕ
+decidedOn o bs = decisions (replies o) 0 bs

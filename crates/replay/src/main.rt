@@ -1,4 +1,4 @@
-// Runs the cases on standard input, each a preparing, a start, its deliveries and perhaps an end and a text, and says in a line what each came to.
+// Runs the cases on standard input, each a preparing, a start, its deliveries and perhaps an end, a text and a number of attempts, and says in a line what each came to.
 ghost use mathlib.Core.Path.{_≡_};
 ghost use mathlib.Core.Bool.{true};
 ghost use Prim.Native.Nat.{_+_, _≤_};

@@ -9,6 +9,7 @@ use Rattle.protocol.specs.Numbers.{number, status}
 use Rattle.protocol.specs.declared.Outcome.{Outcome}
 use Rattle.protocol.specs.declared.Outcome.the-variants.{Waiting, Open, Failed}
 use Rattle.report.specs.declared.Results.{Results}
+use Rattle.report.specs.declared.Closing.{Closing}
 
 abbrev pub space : List ℕ
 space = 0x20 ∷ []
@@ -63,17 +64,21 @@ endText ended n = cond ended (decimalOf n) none
 unfoldable pub answersText : List ℕ → Bool → ℕ → List ℕ
 answersText ns ended n = (numbersText ns ++ space) ++ endText ended n
 
--- the bytes of a text, `-` if its answer is a refusal
-abbrev pub bytesText : ℕ → List ℕ → List ℕ
-bytesText n s = cond (eqb n 0) (hexOf s) none
-
--- a text's answer and its bytes, with a space before each
+-- a text's answer and its bytes, of which a refused one has none, with a space before each
 abbrev pub boundText : ℕ → List ℕ → List ℕ
-boundText n s = (space ++ numberText n) ++ bytesText n s
+boundText n s = (space ++ numberText n) ++ fieldOf s
 
--- the line's end, with these fields before it if the text was asked for
-unfoldable pub closeText : Bool → ℕ → List ℕ → List ℕ
-closeText asked n s = cond asked (boundText n s) [] ++ newline
+-- a number of attempts, with a space before it
+abbrev pub attemptsText : ℕ → List ℕ
+attemptsText n = space ++ decimalOf n
+
+-- fields that are there only if they were asked for
+abbrev pub asked : Bool → List ℕ → List ℕ
+asked b fields = cond b fields []
+
+-- what closes a line: a text's fields and the attempts, each if asked for, and the line's end
+unfoldable pub closeText : Closing → List ℕ → List ℕ
+closeText c s = (asked (c .texts) (boundText (c .answer) s) ++ asked (c .counts) (attemptsText (c .attempts))) ++ newline
 
 -- what is wrong with the case at an offset
 abbrev pub noticeText : List ℕ → ℕ → List ℕ

@@ -5,7 +5,7 @@ ghost use lib.ListN.{length};
 ghost use Rattle.numerals.specs.Added.{Adds};
 ghost use Rattle.numerals.specs.Digits.{decimalOf};
 ghost use Rattle.protocol.specs.Numbers.{answerNumber};
-ghost use Rattle.report.specs.Text.{fieldOf, numberText, outcomeText, statusOf, stateText, sentText, resultsText, moreText, numbersText, endText, answersText, bytesText, boundText, closeText, noticeText};
+ghost use Rattle.report.specs.Text.{fieldOf, numberText, outcomeText, statusOf, stateText, sentText, resultsText, moreText, numbersText, endText, answersText, boundText, attemptsText, asked, closeText, noticeText};
 use numerals::put_decimal;
 use numerals::put_hex;
 use protocol::Answer;
@@ -190,41 +190,49 @@ pub fn put_answers(answers: &[u8], ended: bool, answer: u8, text: &mut [u8], at:
     put_end(ended, answer, text, first + 1)
 }
 
-// The bytes of a text in hexadecimal, or `-` if its answer is a refusal.
-fn put_text(answer: u8, bytes: &[u8], text: &mut [u8], at: usize) -> usize
-    requires { ⌜ at + 2 * length (now bytes) + 1 ≤ length (now text) ⌝ }
-    ensures { λ r. ⌜ r ≤ at + 2 * length (now (bytes .entry)) + 1 ⌝ }
-    ensures { λ r. ⌜ Adds (now (text .entry)) at (bytesText answer (now (bytes .entry))) r (now (text .exit)) ⌝ }
-{
-    if answer != 0 {
-        text[at] = b'-';
-        return at + 1;
-    }
-    put_hex(bytes, text, at)
-}
-
-// A text's answer and its bytes, with a space before each.
-fn put_bound(answer: u8, bytes: &[u8], text: &mut [u8], at: usize) -> usize
+// A text's answer and its bytes, of which a refused one has none, with a space before each, if it was asked for.
+fn put_bound(asks: bool, answer: u8, bytes: &[u8], text: &mut [u8], at: usize) -> usize
     requires { ⌜ at + 2 * length (now bytes) + 30 ≤ length (now text) ⌝ }
     ensures { λ r. ⌜ r ≤ at + 2 * length (now (bytes .entry)) + 23 ⌝ }
-    ensures { λ r. ⌜ Adds (now (text .entry)) at (boundText answer (now (bytes .entry))) r (now (text .exit)) ⌝ }
+    ensures { λ r. ⌜ Adds (now (text .entry)) at (asked asks (boundText answer (now (bytes .entry)))) r (now (text .exit)) ⌝ }
 {
+    if !asks {
+        return at;
+    }
     text[at] = b' ';
     let end = put_number(answer as u64, text, at + 1);
-    put_text(answer, bytes, text, end)
+    put_field(bytes, text, end)
 }
 
-// The line's end, with a text's answer and bytes before it if that was asked for.
-pub fn put_close(asked: bool, answer: u8, bytes: &[u8], text: &mut [u8], at: usize) -> usize
-    requires { ⌜ at + 2 * length (now bytes) + 30 ≤ length (now text) ⌝ }
-    ensures { λ r. ⌜ r ≤ at + 2 * length (now (bytes .entry)) + 30 ⌝ }
-    ensures { λ r. ⌜ Adds (now (text .entry)) at (closeText asked answer (now (bytes .entry))) r (now (text .exit)) ⌝ }
+// A number of attempts with a space before it, if it was asked for.
+fn put_attempts(asks: bool, n: u64, text: &mut [u8], at: usize) -> usize
+    requires { ⌜ at + 21 ≤ length (now text) ⌝ }
+    ensures { λ r. ⌜ r ≤ at + 21 ⌝ }
+    ensures { λ r. ⌜ Adds (now (text .entry)) at (asked asks (attemptsText n)) r (now (text .exit)) ⌝ }
 {
-    if !asked {
-        text[at] = b'\n';
-        return at + 1;
+    if !asks {
+        return at;
     }
-    let end = put_bound(answer, bytes, text, at);
+    text[at] = b' ';
+    put_decimal(n, text, at + 1)
+}
+
+// What a line closes with: whether a text was asked for and what it answered, and whether the attempts were and how many there were.
+pub struct Closing {
+    pub texts: bool,
+    pub answer: u8,
+    pub counts: bool,
+    pub attempts: u64,
+}
+
+// What was asked for after all, and the line's end.
+pub fn put_close(closing: Closing, bytes: &[u8], text: &mut [u8], at: usize) -> usize
+    requires { ⌜ at + 2 * length (now bytes) + 50 ≤ length (now text) ⌝ }
+    ensures { λ r. ⌜ r ≤ at + 2 * length (now (bytes .entry)) + 50 ⌝ }
+    ensures { λ r. ⌜ Adds (now (text .entry)) at (closeText closing (now (bytes .entry))) r (now (text .exit)) ⌝ }
+{
+    let next = put_bound(closing.texts, closing.answer, bytes, text, at);
+    let end = put_attempts(closing.counts, closing.attempts, text, next);
     text[end] = b'\n';
     end + 1
 }

@@ -1,5 +1,5 @@
 -- What the parts of a start, a delivery and an end come to.
-use Prim.Native.Nat.{ℕ, _+_, _-_, _≤_, _<_, min, zero-le}
+use Prim.Native.Nat.{ℕ, _+_, _-_, _%_, _^_, _≤_, _<_, min, zero-le}
 use native.Mathlib.Nat.{zero-add}
 use native.Mathlib.Omega.{arith}
 use mathlib.Core.Path.{_≡_, refl, ap, sym, _∙_}
@@ -40,6 +40,7 @@ use Rattle.session.specs.Session.{sideOf, heldBytes, view, packed, outco
 use Rattle.session.specs.Calls.{Call, refusal, Starts, started, starts, start, Delivers, delivered, moves, takes, deliver, end, endedBy}
 use Rattle.session.specs.Ends.{endAwaiting}
 use Rattle.session.specs.Received.{unchanged, sessionOf, sending, Receives}
+use Rattle.talk.specs.Attempts.{decidedIn, decidedBy, oneIfWaiting, attemptsBy}
 use Rattle.talk.specs.Talk.{failed, ended, feed, onward, heldBy, isOver}
 
 pub take-least : (n : ℕ) (l : List ℕ) → length l ≡ 261 → take (min n 261) l ≡ take n l
@@ -59,7 +60,7 @@ takes-none : (s : Session) (piece out : List ℕ) → length piece ≡ 0 → tak
 takes-none s [] out z = refl
 takes-none s (b ∷ bs) out z = absurd (omega arith)
 
-takes-more : (s : Session) (piece out : List ℕ) → (length piece ≡ 0 → ⊥) → takes s piece out ≡ moves s (onward (sideOf s) (view s) piece) out
+takes-more : (s : Session) (piece out : List ℕ) → (length piece ≡ 0 → ⊥) → takes s piece out ≡ moves s (onward (sideOf s) (view s) piece) (attemptsBy (sideOf s) (view s) piece) out
 takes-more s [] out h = absurd (h refl)
 takes-more s (b ∷ bs) out h = refl
 
@@ -72,49 +73,58 @@ still-room AuthenticationRes = omega arith
 still-room ProxyRes = omega arith
 still-room Response = omega arith
 
+-- a number of 64 bits stays as it is with no more
+no-more : (a : ℕ) → a < 2 ^ 64 → (a + 0) % 2 ^ 64 ≡ a
+no-more a h = omega arith
+
 module _ (g : Bool) (held : ℕ) (l : Lengths) (hold piece : List ℕ) (lent : ℕ) (x : Bound) where
   pub receives-settled : (stage : Stage) → rank stage ≡ 0 → {r : Received} → r ≡ unchanged (Refused Settled) stage held x → Receives stage g held l hold piece lent x r hold
   unfolding deliver
-  receives-settled stage z e = rw e (record { calls = λ b out h. rw (is-over stage x (take held hold) z); within = zero-le; fits = zero-le; inside = zero-le })
+  receives-settled stage z e = rw e (record { calls = λ a b out k h. rw (no-more a k, is-over stage x (take held hold) z); within = zero-le; fits = zero-le; inside = zero-le })
 
   module _ (e : Reply) {r : Received} where
     pub receives-unstarted : g ≡ false → r ≡ unchanged (Refused OutOfOrder) (Awaiting e) held x → Receives (Awaiting e) g held l hold piece lent x r hold
     unfolding deliver
-    receives-unstarted f q = rw (f, q) (record { calls = λ b out k. refl; within = zero-le; fits = zero-le; inside = zero-le })
+    receives-unstarted f q = rw (f, q) (record { calls = λ a b out i k. rw (no-more a i); within = zero-le; fits = zero-le; inside = zero-le })
 
     pub receives-short : g ≡ true → lent < room e → r ≡ unchanged (Refused ShortOutput) (Awaiting e) held x → Receives (Awaiting e) g held l hold piece lent x r hold
     unfolding deliver
-    receives-short t h q = rw (t, q) (record { calls = λ b out k. rw (k, lt-leb (room e) lent h); within = zero-le; fits = zero-le; inside = zero-le })
+    receives-short t h q = rw (t, q) (record { calls = λ a b out i k. rw (no-more a i, k, lt-leb (room e) lent h); within = zero-le; fits = zero-le; inside = zero-le })
 
     pub receives-none : g ≡ true → room e ≤ lent → length piece ≡ 0 → r ≡ unchanged Accepted (Awaiting e) held x → Receives (Awaiting e) g held l hold piece lent x r hold
     unfolding deliver
     receives-none t h z q =
         rw (t, q)
-        (record { calls = λ b out k. rw (k, le-leb (room e) lent h) (takes-none (sessionOf (Awaiting e) true held hold x l b) piece out z); within = zero-le; fits = zero-le; inside = zero-le })
+        (record { calls = λ a b out i k. rw (no-more a i, k, le-leb (room e) lent h) (takes-none (sessionOf (Awaiting e) true held hold x a l b) piece out z); within = zero-le; fits = zero-le; inside = zero-le })
 
   -- a piece taken behind held bytes
   module _ (e : Reply) {h : List ℕ} (q : h ≡ take held hold) {t : Taken} {hold′ : List ℕ} (w : Takes l e h piece hold x t hold′) where
-    moves-as : (b out : List ℕ) → moves (sessionOf (Awaiting e) true held hold x l b) (feed (client (keptIn l b)) (talkAt (keptIn l b) e) (take held hold ++ piece)) out ≡ sending Accepted true t hold′ l b out
-    moves-as b out =
+    moves-as : (a : ℕ) (b out : List ℕ)
+        → moves (sessionOf (Awaiting e) true held hold x a l b) (feed (client (keptIn l b)) (talkAt (keptIn l b) e) (take held hold ++ piece))
+        (decidedIn (client (keptIn l b)) (talkAt (keptIn l b) e) (take held hold ++ piece) + oneIfWaiting (feed (client (keptIn l b)) (talkAt (keptIn l b) e) (take held hold ++ piece) .session)) out
+        ≡ sending Accepted true t hold′ a l b out
+    moves-as a b out =
         let k = w .keeps in
-        let fed = ap (λ (y : List ℕ). feed (client (keptIn l b)) (talkAt (keptIn l b) e) (y ++ piece)) (sym q) ∙ w .whole b in
+        let c = client (keptIn l b) in
+        let fed = ap (λ (y : List ℕ). feed c (talkAt (keptIn l b) e) (y ++ piece)) (sym q) ∙ w .whole b in
+        let tries = (λ i. (ap (λ (y : List ℕ). decidedIn c (talkAt (keptIn l b) e) (y ++ piece)) (sym q) ∙ w .decides b) i + oneIfWaiting (fed i .session)) ∙ sym (k .tries) in
         let used : w .place + length (heldBy (w .session)) - length (take held hold) ≡ t .used = rw (← q) (sym (k .uses)) in
-        ap (λ (f : SideFed). moves (sessionOf (Awaiting e) true held hold x l b) f out) fed
+        (λ i. moves (sessionOf (Awaiting e) true held hold x a l b) (fed i) (tries i) out)
         ∙ (λ i. record {
           answer = Accepted;
-          session = record { stage = sym (k .staged) i; started = true; held = sym (k .counts) i; hold = sym (k .holds) i; bound = sym (k .bounds) i; requests = record { lengths = l; bytes = b } };
+          session = record { stage = sym (k .staged) i; started = true; held = sym (k .counts) i; hold = sym (k .holds) i; bound = sym (k .bounds) i; attempts = (a + t .attempts) % 2 ^ 64; requests = record { lengths = l; bytes = b } };
           used = used i;
           sent = length (part b (t .from) (t .sent));
           output = part b (t .from) (t .sent) ++ drop (length (part b (t .from) (t .sent))) out;
         })
 
     pub receives-taken : g ≡ true → room e ≤ lent → (length piece ≡ 0 → ⊥) → Receives (Awaiting e) g held l hold piece lent x (record { answer = Accepted; taken = t }) hold′
-    unfolding deliver onward
+    unfolding deliver onward decidedBy
     receives-taken j h z =
         let s = w .few in
         rw j
         (record {
-          calls = λ b out g. rw (g, le-leb (room e) lent h) (takes-more (sessionOf (Awaiting e) true held hold x l b) piece out z ∙ moves-as b out);
+          calls = λ a b out i g. rw (g, le-leb (room e) lent h) (takes-more (sessionOf (Awaiting e) true held hold x a l b) piece out z ∙ moves-as a b out);
           within = w .keeps .within;
           fits = omega (arith, s, still-room e);
           inside = w .inside;
@@ -133,19 +143,19 @@ part-long : (b : List ℕ) (from n : ℕ) → length b ≡ 1024 → from + n ≤
 part-long b from n l h = length-take n (drop from b) ∙ rw (length-drop from b) (omega arith)
 
 module _ (s : Session) (piece out : List ℕ) {r : Received} {hold′ out′ : List ℕ} where
-  pub delivers : Receives (s .stage) (s .started) (s .held) (s .requests .lengths) (s .hold) piece (length out) (s .bound) r hold′ → length (s .requests .bytes) ≡ 1024
+  pub delivers : Receives (s .stage) (s .started) (s .held) (s .requests .lengths) (s .hold) piece (length out) (s .bound) r hold′ → s .attempts < 2 ^ 64 → {n : ℕ} → n ≡ (s .attempts + r .taken .attempts) % 2 ^ 64 → length (s .requests .bytes) ≡ 1024
       → out′ ≡ overwrite out 0 (part (s .requests .bytes) (r .taken .from) (r .taken .sent))
       → Delivers (deliver s piece out) piece
-      (record { answer = r .answer; used = r .taken .used; sent = r .taken .sent; session = sessionOf (r .taken .stage) (s .started) (r .taken .held) hold′ (r .taken .bound) (s .requests .lengths) (s .requests .bytes) }) out′
+      (record { answer = r .answer; used = r .taken .used; sent = r .taken .sent; session = sessionOf (r .taken .stage) (s .started) (r .taken .held) hold′ (r .taken .bound) n (s .requests .lengths) (s .requests .bytes) }) out′
   unfolding overwrite
-  delivers v long w =
+  delivers v small {n = tries} more long w =
       let t = r .taken in
       let p = part (s .requests .bytes) (t .from) (t .sent) in
       let n : length p ≡ t .sent = part-long (s .requests .bytes) (t .from) (t .sent) long (v .inside) in
-      let c = v .calls (s .requests .bytes) out refl in
+      let c = v .calls (s .attempts) (s .requests .bytes) out small refl in
       let o : out′ ≡ p ++ drop (length p) out = w ∙ ap (λ (k : ℕ). p ++ drop k out) (zero-add (length p)) in
       record {
-        returned = (λ i. record { answer = r .answer; used = t .used; sent = sym n i; session = sessionOf (t .stage) (s .started) (t .held) hold′ (t .bound) (s .requests .lengths) (s .requests .bytes) }) ∙ ap delivered (sym c);
+        returned = (λ i. record { answer = r .answer; used = t .used; sent = sym n i; session = sessionOf (t .stage) (s .started) (t .held) hold′ (t .bound) (more i) (s .requests .lengths) (s .requests .bytes) }) ∙ ap delivered (sym c);
         output = o ∙ ap (λ (a : Call). a .output) (sym c);
         inside = rw o (omega (arith, length-append p (drop (length p) out)));
         within = v .within;
@@ -158,15 +168,15 @@ startCall s r out =
     let sent = part (s .requests .bytes) 0 (r .sent) in
     record {
       answer = r .answer;
-      session = record { stage = s .stage; started = r .started; held = s .held; hold = s .hold; bound = s .bound; requests = s .requests };
+      session = record { stage = s .stage; started = r .started; held = s .held; hold = s .hold; bound = s .bound; attempts = s .attempts; requests = s .requests };
       used = 0;
       sent = length sent;
       output = sent ++ drop (length sent) out;
     }
 
-module _ (held : ℕ) (hold : List ℕ) (x : Bound) (q : Requests) (out : List ℕ) where
+module _ (held : ℕ) (hold : List ℕ) (x : Bound) (n : ℕ) (q : Requests) (out : List ℕ) where
   abbrev at : Stage → Bool → Session
-  at stage g = record { stage = stage; started = g; held = held; hold = hold; bound = x; requests = q }
+  at stage g = record { stage = stage; started = g; held = held; hold = hold; bound = x; attempts = n; requests = q }
 
   start-call : (stage : Stage) (g : Bool) → startCall (at stage g) (startAt stage g (q .lengths) (length out)) out ≡ start (at stage g) out
   unfolding start
@@ -190,15 +200,15 @@ module _ (s : Session) (out : List ℕ) {r : Starting} (q : r ≡ startAt (s .st
 
   pub starts-as : {out′ : List ℕ} → out′ ≡ overwrite out 0 (take (r .sent) (s .requests .bytes))
       → Starts (start s out)
-      (record { answer = r .answer; sent = r .sent; session = record { stage = s .stage; started = r .started; held = s .held; hold = s .hold; bound = s .bound; requests = s .requests } }) out′
+      (record { answer = r .answer; sent = r .sent; session = record { stage = s .stage; started = r .started; held = s .held; hold = s .hold; bound = s .bound; attempts = s .attempts; requests = s .requests } }) out′
   unfolding overwrite
   starts-as {out′} w =
       let p = part (s .requests .bytes) 0 (r .sent) in
       let n : length p ≡ r .sent = length-take-le (r .sent) (s .requests .bytes) start-kept in
-      let c = ap (λ (x : Starting). startCall s x out) q ∙ start-call (s .held) (s .hold) (s .bound) (s .requests) out (s .stage) (s .started) in
+      let c = ap (λ (x : Starting). startCall s x out) q ∙ start-call (s .held) (s .hold) (s .bound) (s .attempts) (s .requests) out (s .stage) (s .started) in
       let o : out′ ≡ p ++ drop (length p) out = w ∙ ap (λ (k : ℕ). p ++ drop k out) (zero-add (length p)) in
       record {
-        returned = (λ i. record { answer = r .answer; sent = sym n i; session = record { stage = s .stage; started = r .started; held = s .held; hold = s .hold; bound = s .bound; requests = s .requests } }) ∙ ap started c;
+        returned = (λ i. record { answer = r .answer; sent = sym n i; session = record { stage = s .stage; started = r .started; held = s .held; hold = s .hold; bound = s .bound; attempts = s .attempts; requests = s .requests } }) ∙ ap started c;
         output = o ∙ ap (λ (a : Call). a .output) c;
         inside = rw o (omega (arith, length-append p (drop (length p) out)));
       }

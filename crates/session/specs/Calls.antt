@@ -23,8 +23,9 @@ use Rattle.session.specs.declared.Prepared.{Prepared}
 use Rattle.session.specs.declared.Started.{Started}
 use Rattle.session.specs.declared.Delivered.{Delivered}
 use Rattle.session.specs.declared.Ended.{Ended}
-use Rattle.session.specs.Session.{sideOf, view, packed, outcome, firstRoomAt, firstAt, roomAt}
+use Rattle.session.specs.Session.{sideOf, view, packed, attempted, outcome, firstRoomAt, firstAt, roomAt}
 use Rattle.talk.specs.Talk.{failed, ended, onward, heldBy, isOver, reached}
+use Rattle.talk.specs.Attempts.{attemptsBy}
 use Rattle.talk.specs.Tunnel.{Answer, Receiver}
 use Rattle.sending.specs.Stages.{SideFed}
 
@@ -77,7 +78,7 @@ keptBy (v4 d port) = keptWith false (request d port) [] []
 
 -- a session that is not started and holds nothing
 abbrev pub fresh : Stage → Requests → Session
-fresh s q = record { stage = s; started = false; held = 0; hold = replicate 261 0; bound = boundOf unbound; requests = q }
+fresh s q = record { stage = s; started = false; held = 0; hold = replicate 261 0; bound = boundOf unbound; attempts = 0; requests = q }
 
 -- prepared: the requests are kept, and the first reply is waited for
 abbrev pub preparedFor : Opening → Session
@@ -104,7 +105,7 @@ abbrev pub starts : Session → List ℕ → List ℕ → Call
 starts s first out =
     record {
       answer = Accepted;
-      session = record { stage = s .stage; started = true; held = s .held; hold = s .hold; bound = s .bound; requests = s .requests };
+      session = record { stage = s .stage; started = true; held = s .held; hold = s .hold; bound = s .bound; attempts = s .attempts; requests = s .requests };
       used = 0;
       sent = length first;
       output = first ++ drop (length first) out;
@@ -118,11 +119,12 @@ start s out =
 
 -- ---- Delivery
 
-abbrev pub moves : Session → SideFed → List ℕ → Call
-moves s f out =
+-- what bytes do, and the attempts that they took
+abbrev pub moves : Session → SideFed → ℕ → List ℕ → Call
+moves s f n out =
     record {
       answer = Accepted;
-      session = packed s (f .session);
+      session = attempted n (packed s (f .session));
       used = reached f - length (heldBy (view s));
       sent = length (f .sent);
       output = f .sent ++ drop (length (f .sent)) out;
@@ -131,7 +133,7 @@ moves s f out =
 -- an empty piece changes nothing
 abbrev pub takes : Session → List ℕ → List ℕ → Call
 takes s [] out = record { answer = Accepted; session = s; used = 0; sent = 0; output = out }
-takes s (b ∷ bs) out = moves s (onward (sideOf s) (view s) (b ∷ bs)) out
+takes s (b ∷ bs) out = moves s (onward (sideOf s) (view s) (b ∷ bs)) (attemptsBy (sideOf s) (view s) (b ∷ bs)) out
 
 unfoldable pub deliver : Session → List ℕ → List ℕ → Call
 deliver s piece out =

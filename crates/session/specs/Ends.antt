@@ -9,5 +9,5 @@ use Rattle.session.specs.declared.Ended.{Ended}
 abbrev pub endAwaiting : Bool → Session → Ended
 endAwaiting g s =
     cond g
-    (record { answer = Accepted; session = record { stage = Failed UnexpectedEof; started = s .started; held = 0; hold = s .hold; bound = s .bound; requests = s .requests } })
+    (record { answer = Accepted; session = record { stage = Failed UnexpectedEof; started = s .started; held = 0; hold = s .hold; bound = s .bound; attempts = s .attempts; requests = s .requests } })
     (record { answer = Refused OutOfOrder; session = s })

@@ -1,5 +1,5 @@
 -- The session as the calls hold it, and the session of a handshake's side that it stands for.
-use Prim.Native.Nat.{ℕ}
+use Prim.Native.Nat.{ℕ, _+_, _%_, _^_}
 use mathlib.Core.Bool.{Bool, true, false, cond}
 use mathlib.Core.List.{List, [], _++_}
 use lib.ListN.{length, take, drop}
@@ -37,8 +37,14 @@ packed s m =
       held = length (holdsOf m);
       hold = holdsOf m ++ drop (length (holdsOf m)) (s .hold);
       bound = boundAfter m (s .bound);
+      attempts = s .attempts;
       requests = s .requests;
     }
+
+-- F-11: with so many attempts more; the number wraps at 2 to the 64, whatever it was before
+abbrev pub attempted : ℕ → Session → Session
+attempted n s =
+    record { stage = s .stage; started = s .started; held = s .held; hold = s .hold; bound = s .bound; attempts = (s .attempts + n) % 2 ^ 64; requests = s .requests }
 
 abbrev pub outcome : Session → Outcome
 outcome s = client.outcomeOf (view s)

@@ -23,6 +23,7 @@ use protocol::SocksError;
 use sending::Lengths;
 use sending::Requests;
 use sending::Stage;
+use std::num::wrapping_add_u64;
 use turns::Taken;
 use wire::copy;
 use wire::least;
@@ -30,12 +31,14 @@ use wire::least;
 // What matters when. Prepared, which is awaiting and not started: `requests`, of which a start sends the first. Awaiting and started: the
 // first `held` bytes of `hold`, which are the undecided rest of a reply, and those of `requests` that are still due. Open: the first `held`
 // bytes of `hold`, which are the bound address, and `bound`, its kind and port. Failed: the stage alone. The requests never change.
+// `attempts` counts from preparing on, at every stage.
 pub struct Session {
     pub stage: Stage,
     pub started: bool,
     pub held: usize,
     pub hold: [u8; 261],
     pub bound: Bound,
+    pub attempts: u64,
     pub requests: Requests,
 }
 
@@ -93,6 +96,7 @@ fn unchanged(answer: Answer, stage: Stage, held: usize, bound: Bound) -> Receive
             from: 0,
             sent: 0,
             bound: bound,
+            attempts: 0,
         },
     }
 }
@@ -204,6 +208,7 @@ impl Session {
                 held: self.held,
                 hold: hold,
                 bound: bound,
+                attempts: self.attempts,
                 requests: requests,
             },
         }
@@ -244,6 +249,7 @@ impl Session {
                 held: taken.held,
                 hold: hold,
                 bound: after,
+                attempts: wrapping_add_u64(self.attempts, taken.attempts),
                 requests: requests,
             },
         }
@@ -251,7 +257,7 @@ impl Session {
 
     // Settling changes the stage and the number of held bytes, and nothing else.
     fn settled(self, stage: Stage) -> Session
-        ensures { λ r. ⌜ r ≡ record { stage = stage; started = self .started; held = 0; hold = self .hold; bound = self .bound; requests = self .requests } ⌝ }
+        ensures { λ r. ⌜ r ≡ record { stage = stage; started = self .started; held = 0; hold = self .hold; bound = self .bound; attempts = self .attempts; requests = self .requests } ⌝ }
     {
         let hold = self.hold;
         let bound = self.bound;
@@ -262,6 +268,7 @@ impl Session {
             held: 0,
             hold: hold,
             bound: bound,
+            attempts: self.attempts,
             requests: requests,
         }
     }
@@ -339,5 +346,12 @@ impl Session {
             };
         }
         put_bound(self.bound(), text)
+    }
+
+    // For each accepted delivery of a nonempty piece the replies decided in it, and one more if it ended waiting.
+    pub fn attempts(self) -> u64
+        ensures { λ r. ⌜ r ≡ self .attempts ⌝ }
+    {
+        self.attempts
     }
 }

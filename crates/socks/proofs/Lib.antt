@@ -3,4 +3,5 @@ pub mod Refusals
 pub mod InTwo
 pub mod Tunnels
 pub mod Openings
+pub mod Attempts
 pub mod Examples

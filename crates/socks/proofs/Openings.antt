@@ -19,7 +19,7 @@ use Rattle.socks.proofs.InTwo.{start-begins}
 use Rattle.socks.proofs.Tunnels.{view-packed, Begun, demand3}
 use Rattle.talk.specs.Talk.{feed}
 
-begins-stands : (o : Opening) → Limits o → (out : List ℕ)
+pub begins-stands : (o : Opening) → Limits o → (out : List ℕ)
     → let c = begins o (feed (client.side o) (client.begun o) []) out in Begun o (c .session) (take (c .sent) (c .output))
 begins-stands o l out =
     record {
@@ -28,6 +28,7 @@ begins-stands o l out =
         kept = kept-by o l;
         seen = view-packed (startedFor o) (feed (client.side o) (client.begun o) [] .session);
         waits = begun-waits o [];
+        exact = refl;
       };
       sends = take-append-seam _ _;
     }

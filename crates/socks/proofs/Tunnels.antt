@@ -24,7 +24,7 @@ use Rattle.protocol.proofs.Sequences.{open-just, open-one}
 use Rattle.session.specs.declared.Session.{Session}
 use Rattle.sending.specs.declared.Stage.{Stage}
 use Rattle.sending.specs.declared.Stage.the-variants.{Awaiting, Open as OpenStage, Failed}
-use Rattle.sending.specs.Stages.{SideSession, viewAt}
+use Rattle.sending.specs.Stages.{SideSession, viewAt, holdsOf}
 use Rattle.sending.specs.Parts.{requestsOf}
 use Rattle.session.specs.Session.{heldBytes, view, packed, outcome, bound, roomAt}
 use Rattle.session.specs.Calls.{refusal, takes, deliver, receiver}
@@ -54,34 +54,35 @@ pub record Stands (r : ℕ) (k : client.Kept) (s : Session) (m : SideSession) : 
   pub kept : requestsOf (s .requests) ≡ k
   pub seen : view s ≡ m
   pub waits : Waits r m
+  pub exact : s .held ≡ length (holdsOf m)
 
-module _ (r : ℕ) (s : Session) (g : s .started ≡ true) (w : Waits r (view s)) where
+module _ (r : ℕ) (s : Session) (g : s .started ≡ true) (w : Waits r (view s)) (x : s .held ≡ length (holdsOf (view s))) where
   abbrev k : client.Kept
   k = requestsOf (s .requests)
 
   itself : Stands r k s (view s)
-  itself = record { going = g; kept = refl; seen = refl; waits = w }
+  itself = record { going = g; kept = refl; seen = refl; waits = w; exact = x }
 
   moved-waits : (m : SideSession) → Waits r m → (bs : List ℕ) → Waits r (talk.onward (client.client k) m bs .session)
   unfolding talk.onward
   moved-waits (talk.waiting e h) v bs = onward-waits k r e v (h ++ bs)
-  moved-waits (talk.ended x) v bs = tt
+  moved-waits (talk.ended e) v bs = tt
 
   takes-alike : (p out : List ℕ) → like.Alike (Stands r k) (takes s p out) (accepting (client.client k) (view s) (given (client.client k) (view s) p) out)
   takes-alike [] out = record { session = itself; used = omega arith; sent = refl }
   takes-alike (b ∷ bs) out =
       record {
-        session = record { going = g; kept = refl; seen = view-packed s (talk.onward (client.client k) (view s) (b ∷ bs) .session); waits = moved-waits (view s) w (b ∷ bs) };
+        session = record { going = g; kept = refl; seen = view-packed s (talk.onward (client.client k) (view s) (b ∷ bs) .session); waits = moved-waits (view s) w (b ∷ bs); exact = refl };
         used = refl;
         sent = refl;
       }
 
-  answers-alike : (b h x y : Bool) → h ≡ true → (b ≡ false → x ≡ y) → (p out : List ℕ)
-      → like.Alike (Stands r k) (cond b (refusal Settled s out) (cond (not h) (refusal OutOfOrder s out) (cond x (takes s p out) (refusal ShortOutput s out))))
+  answers-alike : (b h v y : Bool) → h ≡ true → (b ≡ false → v ≡ y) → (p out : List ℕ)
+      → like.Alike (Stands r k) (cond b (refusal Settled s out) (cond (not h) (refusal OutOfOrder s out) (cond v (takes s p out) (refusal ShortOutput s out))))
       (cond b (refusing Settled (view s) out) (cond y (accepting (client.client k) (view s) (given (client.client k) (view s) p) out) (refusing ShortOutput (view s) out)))
-  answers-alike true h x y t f p out = record { session = itself; used = refl; sent = refl }
-  answers-alike false false x y t f p out = absurd (true≢false (sym t))
-  answers-alike false true x y t f p out = rw (f refl) (go y)
+  answers-alike true h v y t f p out = record { session = itself; used = refl; sent = refl }
+  answers-alike false false v y t f p out = absurd (true≢false (sym t))
+  answers-alike false true v y t f p out = rw (f refl) (go y)
     where
       go : (z : Bool) → like.Alike (Stands r k) (cond z (takes s p out) (refusal ShortOutput s out))
           (cond z (accepting (client.client k) (view s) (given (client.client k) (view s) p) out) (refusing ShortOutput (view s) out))
@@ -89,10 +90,10 @@ module _ (r : ℕ) (s : Session) (g : s .started ≡ true) (w : Waits r (view s)
       go false = record { session = itself; used = refl; sent = refl }
 
   -- a waiting session asks for what the tunnel asks for
-  asks-same : (stage : Stage) (b : Bound) (h : List ℕ) → Waits r (viewAt stage b h) → talk.isOver (viewAt stage b h) ≡ false → roomAt stage ≡ r
+  pub asks-same : (stage : Stage) (b : Bound) (h : List ℕ) → Waits r (viewAt stage b h) → talk.isOver (viewAt stage b h) ≡ false → roomAt stage ≡ r
   asks-same (Awaiting e) b h v z = v
   asks-same OpenStage b h v z = absurd (true≢false z)
-  asks-same (Failed x) b h v z = absurd (true≢false z)
+  asks-same (Failed e) b h v z = absurd (true≢false z)
 
   alike : (d : Delivery) → like.Alike (Stands r k) (answerTo (receiver r) s d) (answerTo (side.receiver (client.client k) r) (view s) d)
   unfolding deliver side.deliver
@@ -100,12 +101,12 @@ module _ (r : ℕ) (s : Session) (g : s .started ≡ true) (w : Waits r (view s)
       answers-alike (talk.isOver (view s)) (s .started) (leb (roomAt (s .stage)) (length (d .output))) (leb r (length (d .output))) g
       (λ z. ap (λ (n : ℕ). leb n (length (d .output))) (asks-same (s .stage) (s .bound) (heldBytes s) w z)) (d .piece) (d .output)
 
-step : (r : ℕ) (k : client.Kept) (s : Session) (m : SideSession) → Stands r k s m → (d : Delivery)
+pub step : (r : ℕ) (k : client.Kept) (s : Session) (m : SideSession) → Stands r k s m → (d : Delivery)
     → like.Alike (Stands r k) (answerTo (receiver r) s d) (answerTo (side.receiver (client.client k) r) m d)
 step r k s m t d =
     subst (λ (n : SideSession). like.Alike (Stands r k) (answerTo (receiver r) s d) (answerTo (side.receiver (client.client k) r) n d)) (t .seen)
     (subst (λ (j : client.Kept). like.Alike (Stands r j) (answerTo (receiver r) s d) (answerTo (side.receiver (client.client j) r) (view s) d)) (t .kept)
-    (alike r s (t .going) (rw (t .seen) (t .waits)) d))
+    (alike r s (t .going) (rw (t .seen) (t .waits)) (rw (t .seen) (t .exact)) d))
 
 -- ---- demand 3, of a session that stands for an opening's talk
 
@@ -141,7 +142,7 @@ fed o s sent b ds =
     }
 
 -- the joined bytes are bytes
-joined-bytes : (r : ℕ) (ds : List Delivery) → BytePieces ds → Bytes (joined (receiver r) ds)
+pub joined-bytes : (r : ℕ) (ds : List Delivery) → BytePieces ds → Bytes (joined (receiver r) ds)
 unfolding joined
 joined-bytes r [] y = λ i. zero-le
 joined-bytes r (d ∷ ds) y = bytes-join (cond (lends (receiver r) d) (d .piece) []) (joined (receiver r) ds) (go (lends (receiver r) d)) (joined-bytes r ds (λ e m. y e (List·Memᴰ·tail m)))

@@ -21,7 +21,8 @@ use Rattle.talk.specs.Tunnel.{Delivery, joined, Tunnel, tunnel}
 abbrev pub BytePieces : List Delivery → Type 0
 BytePieces ds = (d : Delivery) → List·Memᴰ d ds → Bytes (d .piece)
 
--- what two tunnels have alike: outcome with status, bound address, sent bytes, total count and rests
+-- what two tunnels have alike: outcome with status, bound address, sent bytes, total count and rests. Not the attempts (F-11), in which lists with equal joined
+-- bytes may differ
 pub record Alike (t u : Tunnel Session) : Type 0 where
   pub outcomes : outcome (t .session) ≡ outcome (u .session)
   pub bounds : bound (t .session) ≡ bound (u .session)

@@ -1,17 +1,18 @@
 -- The lines that document 01 marks with †, computed by the calls: preparing and a start, then the bytes received in two deliveries.
 use Prim.Native.Nat.{ℕ, _-_}
 use mathlib.Core.Path.{_≡_}
-use mathlib.Core.List.{List, [], _∷_}
+use mathlib.Core.List.{List, [], _∷_, map}
 use lib.ListN.{take, drop, replicate}
 use Rattle.protocol.specs.declared.Answer.{Answer}
 use Rattle.protocol.specs.declared.Answer.the-variants.{Accepted, Refused}
 use Rattle.protocol.specs.Numbers.{number, status, answerNumber}
-use Rattle.protocol.specs.Examples.{Case, host, over5, over4, Shown, fails, shown, computed, open5, open4, address}
+use Rattle.protocol.specs.Opening.{V5}
+use Rattle.protocol.specs.Examples.{Case, host, over5, over4, Shown, fails, shown, computed, open5, signed5, open4, address, success}
 use Rattle.session.specs.Session.{outcome}
 use Rattle.session.specs.declared.Session.{Session}
 use Rattle.session.specs.Calls.{Call, prepare5, prepare4, start, deliver, end, receiver}
 use Rattle.socks.specs.InTwo.{inTwo}
-use Rattle.talk.specs.Tunnel.{Delivery, tunnel}
+use Rattle.talk.specs.Tunnel.{Delivery, after, tunnel}
 
 -- a piece with an output of so many bytes
 abbrev pub lent : ℕ → List ℕ → Delivery
@@ -47,3 +48,16 @@ inTurn s room =
 pub record Turns : Type 0 where
   pub over5 : inTurn (prepare5 (open5 address) .session) 778 ≡ 22 ∷ 22 ∷ 1 ∷ 0 ∷ 22 ∷ []
   pub over4 : inTurn (prepare4 (open4 address) .session) 1024 ≡ 22 ∷ 22 ∷ 1 ∷ 0 ∷ 22 ∷ []
+
+-- F-11, worked: the attempts of replies that open, delivered at once and byte by byte
+abbrev pub singly : List ℕ → List Delivery
+singly bs = map (λ b. lent 778 (b ∷ [])) bs
+
+abbrev pub triedBy : V5 → List Delivery → ℕ
+triedBy a ds = after (receiver 778) (inTwo (prepare5 a) (replicate 778 0xEE) .session) ds .attempts
+
+pub record Tries : Type 0 where
+  pub plain : triedBy (open5 address) (lent 778 (0x05 ∷ 0x00 ∷ success) ∷ []) ≡ 2
+  pub plainly-singly : triedBy (open5 address) (singly (0x05 ∷ 0x00 ∷ success)) ≡ 13
+  pub signed : triedBy (signed5 address 1 1) (lent 778 (0x05 ∷ 0x02 ∷ 0x01 ∷ 0x00 ∷ success) ∷ []) ≡ 3
+  pub signed-singly : triedBy (signed5 address 1 1) (singly (0x05 ∷ 0x02 ∷ 0x01 ∷ 0x00 ∷ success)) ≡ 16

@@ -25,7 +25,7 @@ use Rattle.talk.specs.Talk.{feed}
 
 -- started, with nothing held
 abbrev pub startedFor : Opening → Session
-startedFor o = record { stage = Awaiting (firstReply o); started = true; held = 0; hold = replicate 261 0; bound = boundOf unbound; requests = keptBy o }
+startedFor o = record { stage = Awaiting (firstReply o); started = true; held = 0; hold = replicate 261 0; bound = boundOf unbound; attempts = 0; requests = keptBy o }
 
 -- an accepted opening: its talk, fed with no byte; what is sent stands at the output's start
 abbrev pub begins : Opening → SideFed → List ℕ → Call

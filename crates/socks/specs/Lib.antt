@@ -1,3 +1,4 @@
 pub mod InTwo
 pub mod Demand3
+pub mod Attempts
 pub mod Examples

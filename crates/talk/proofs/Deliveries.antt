@@ -19,12 +19,12 @@ module _ (M : Side) (law : Lawful M) (room : ℕ) where
   given-onward s w (b ∷ bs) = refl
 
   -- one delivery that lends enough
-  record Lent (s : SessionOf M) (d : Delivery) : Type 0 where
-    session : answerTo (receiver M room) s d .session ≡ onward M s (d .piece) .session
-    used : answerTo (receiver M room) s d .used ≡ reached (onward M s (d .piece)) - length (heldBy s)
-    sent : take (answerTo (receiver M room) s d .sent) (answerTo (receiver M room) s d .output) ≡ onward M s (d .piece) .sent
+  pub record Lent (s : SessionOf M) (d : Delivery) : Type 0 where
+    pub session : answerTo (receiver M room) s d .session ≡ onward M s (d .piece) .session
+    pub used : answerTo (receiver M room) s d .used ≡ reached (onward M s (d .piece)) - length (heldBy s)
+    pub sent : take (answerTo (receiver M room) s d .sent) (answerTo (receiver M room) s d .output) ≡ onward M s (d .piece) .sent
 
-  lent : (s : SessionOf M) (d : Delivery) → Still M s → lends (receiver M room) d ≡ true → Lent s d
+  pub lent : (s : SessionOf M) (d : Delivery) → Still M s → lends (receiver M room) d ≡ true → Lent s d
   unfolding deliver onward
   lent (waiting s held) d w e =
       let g = given-onward (waiting s held) w (d .piece) in
@@ -32,12 +32,12 @@ module _ (M : Side) (law : Lawful M) (room : ℕ) where
   lent (ended x) d w e = record { session = refl; used = refl; sent = refl }
 
   -- one that does not
-  record Unlent (s : SessionOf M) (d : Delivery) : Type 0 where
-    session : answerTo (receiver M room) s d .session ≡ s
-    used : answerTo (receiver M room) s d .used ≡ 0
-    sent : take (answerTo (receiver M room) s d .sent) (answerTo (receiver M room) s d .output) ≡ []
+  pub record Unlent (s : SessionOf M) (d : Delivery) : Type 0 where
+    pub session : answerTo (receiver M room) s d .session ≡ s
+    pub used : answerTo (receiver M room) s d .used ≡ 0
+    pub sent : take (answerTo (receiver M room) s d .sent) (answerTo (receiver M room) s d .output) ≡ []
 
-  unlent : (s : SessionOf M) (d : Delivery) → lends (receiver M room) d ≡ false → Unlent s d
+  pub unlent : (s : SessionOf M) (d : Delivery) → lends (receiver M room) d ≡ false → Unlent s d
   unfolding deliver onward
   unlent (waiting s held) d e = record { session = rw e; used = rw e; sent = rw e }
   unlent (ended x) d e = record { session = refl; used = refl; sent = refl }

@@ -3,3 +3,4 @@ pub mod Deliveries
 pub mod Accept
 pub mod Pieces
 pub mod Follow
+pub mod Attempts

@@ -4,3 +4,4 @@ pub mod Tunnel
 pub mod Lawful
 pub mod Pieces
 pub mod Follow
+pub mod Attempts

@@ -1,6 +1,6 @@
 -- What a piece comes to: the rest of a stage that waits is held, and one that has ended holds nothing.
 use Prim.Native.Nat.{ℕ, _+_, _-_, _≤_, _<_, zero-le}
-use native.Mathlib.Nat.{zero-add, le-refl}
+use native.Mathlib.Nat.{add-zero, zero-add, le-refl}
 use native.Mathlib.Omega.{arith}
 use mathlib.Core.Path.{_≡_, refl, ap, sym, _∙_}
 use mathlib.Core.List.{List, _++_, append-assoc}
@@ -19,38 +19,43 @@ use Rattle.sending.specs.declared.Stage.the-variants.{Awaiting, Open, Failed}
 use Rattle.sending.specs.Stages.{sessionAt}
 use Rattle.sending.specs.Due.{dueFrom}
 use Rattle.sending.proofs.Sending.{due-inside}
-use Rattle.bound.specs.declared.Kept.{Kept}
+use Rattle.bound.specs.declared.Held.{Held}
 use Rattle.bound.specs.Named.{Binds}
 use Rattle.turns.specs.declared.Taken.{Taken}
 use Rattle.turns.specs.Turns.{keptIn, Rests, namedAt, Ready, Worked, Keeps, Opens, Takes}
-use Rattle.turns.proofs.Steps.{stage-rests}
+use Rattle.turns.proofs.Steps.{stage-rests, rests-decided}
 use Rattle.talk.specs.Talk.{waiting}
 
 unread : (h p : List ℕ) (place : ℕ) → length (drop place (h ++ p)) ≡ length h + length p - place
 unread h p place = length-drop place (h ++ p) ∙ ap (λ (n : ℕ). n - place) (length-append h p)
 
-module _ (place : ℕ) (h p hold : List ℕ) {n from sent : ℕ} {bound : Bound} (long : length h ≡ n) (inside : place ≤ n + length p) (x : Endpoint) {r : Taken} {hold′ : List ℕ} {stage : Stage} where
-  pub keeps-waits : {e : Reply} → stage ≡ Awaiting e → r ≡ record { stage = stage; held = n + length p - place; used = length p; from = from; sent = sent; bound = bound } → hold′ ≡ overwrite hold 0 (drop place (h ++ p))
-      → Keeps (sessionAt stage x (drop place (h ++ p))) place h p hold bound r hold′
+module _ (place : ℕ) (h p hold : List ℕ) {n from sent decided : ℕ} {bound : Bound} (long : length h ≡ n) (inside : place ≤ n + length p) (x : Endpoint) {r : Taken} {hold′ : List ℕ} {stage : Stage} where
+  pub keeps-waits : {e : Reply} → stage ≡ Awaiting e → r ≡ record { stage = stage; held = n + length p - place; used = length p; from = from; sent = sent; bound = bound; attempts = decided + 1 } → hold′ ≡ overwrite hold 0 (drop place (h ++ p))
+      → Keeps (sessionAt stage x (drop place (h ++ p))) place h p hold bound decided r hold′ × (r .from ≡ from) × (r .sent ≡ sent)
   unfolding overwrite
   keeps-waits {e} s q w =
       let u = unread h p place in
-      rw (q, s)
-      (record {
-        staged = refl;
-        bounds = refl;
-        counts = sym (u ∙ ap (λ (k : ℕ). k + length p - place) long);
-        holds = w ∙ ap (λ (k : ℕ). drop place (h ++ p) ++ drop k hold) (zero-add (length (drop place (h ++ p))));
-        uses = omega arith;
-        within = le-refl (length p);
-      })
+      rw (q, s) (
+        record {
+          staged = refl;
+          bounds = refl;
+          counts = sym (u ∙ ap (λ (k : ℕ). k + length p - place) long);
+          holds = w ∙ ap (λ (k : ℕ). drop place (h ++ p) ++ drop k hold) (zero-add (length (drop place (h ++ p))));
+          uses = omega arith;
+          within = le-refl (length p);
+          tries = refl;
+        },
+        refl,
+        refl,
+      )
 
-  pub keeps-failed : {y : SocksError} → stage ≡ Failed y → r ≡ record { stage = stage; held = 0; used = place - n; from = from; sent = sent; bound = bound } → hold′ ≡ hold
-      → Keeps (sessionAt stage x (drop place (h ++ p))) place h p hold bound r hold′
-  keeps-failed s q w = rw (q, s) (record { staged = refl; bounds = refl; counts = refl; holds = w; uses = omega arith; within = omega arith })
+  pub keeps-failed : {y : SocksError} → stage ≡ Failed y → r ≡ record { stage = stage; held = 0; used = place - n; from = from; sent = sent; bound = bound; attempts = decided } → hold′ ≡ hold
+      → Keeps (sessionAt stage x (drop place (h ++ p))) place h p hold bound decided r hold′ × (r .from ≡ from) × (r .sent ≡ sent)
+  keeps-failed s q w = rw (q, s) (record { staged = refl; bounds = refl; counts = refl; holds = w; uses = omega arith; within = omega arith; tries = sym (add-zero decided) }, refl, refl)
 
-  pub keeps-open : stage ≡ Open → Opens x stage (place - n) from sent hold r hold′ → Keeps (sessionAt stage x (drop place (h ++ p))) place h p hold bound r hold′
-  keeps-open s w = rw (w .is, s) (record { staged = refl; bounds = refl; counts = refl; holds = w .holds; uses = omega arith; within = omega arith })
+  pub keeps-open : stage ≡ Open → Opens x stage (place - n) from sent decided hold r hold′
+      → Keeps (sessionAt stage x (drop place (h ++ p))) place h p hold bound decided r hold′ × (r .from ≡ from) × (r .sent ≡ sent)
+  keeps-open s w = rw (w .is, s) (record { staged = refl; bounds = refl; counts = refl; holds = w .holds; uses = omega arith; within = omega arith; tries = sym (add-zero decided) }, refl, refl)
 
 -- what is unread of a stage that waits fits the hold
 pub rests-few : {stage : Stage} {e : Reply} (rest : List ℕ) → stage ≡ Awaiting e → Rests stage rest → length rest ≤ 261
@@ -59,9 +64,10 @@ rests-few rest q r = (rw q at r) .1
 pub ready-open : {stage : Stage} (e : Reply) (begin : ℕ) (bytes : List ℕ) → stage ≡ Open → Ready stage e begin bytes → Ready Open e begin bytes
 ready-open e begin bytes q r = rw q at r
 
-pub used-is : (stage : Stage) (from sent : ℕ) (bound : Bound) {a b : ℕ} → a ≡ b
-    → _≡_ {A = Taken} (record { stage = stage; held = 0; used = a; from = from; sent = sent; bound = bound }) (record { stage = stage; held = 0; used = b; from = from; sent = sent; bound = bound })
-used-is stage from sent bound q = λ i. record { stage = stage; held = 0; used = q i; from = from; sent = sent; bound = bound }
+pub used-is : (stage : Stage) (from sent decided : ℕ) (bound : Bound) {a b : ℕ} → a ≡ b
+    → _≡_ {A = Taken} (record { stage = stage; held = 0; used = a; from = from; sent = sent; bound = bound; attempts = decided })
+    (record { stage = stage; held = 0; used = b; from = from; sent = sent; bound = bound; attempts = decided })
+used-is stage from sent decided bound q = λ i. record { stage = stage; held = 0; used = q i; from = from; sent = sent; bound = bound; attempts = decided }
 
 pub held-long : (n : ℕ) (hold : List ℕ) → length hold ≡ 261 → n ≤ 261 → length (take n hold) ≡ n
 held-long n hold l h = length-take n hold ∙ omega arith
@@ -74,14 +80,14 @@ module _ (place n : ℕ) (hold p : List ℕ) (long : length hold ≡ 261) (few :
 pub begin-inside : (n : ℕ) (hold p : List ℕ) → length hold ≡ 261 → n ≤ 261 → {begin : ℕ} → begin ≤ length (take n hold ++ p) → begin ≤ n + length p
 begin-inside n hold p l h i = omega (arith, length-append (take n hold) p, held-long n hold l h)
 
-pub opens-as : {x : Endpoint} (stage : Stage) (from sent : ℕ) {hold hold′ : List ℕ} {k : Kept} {used used′ : ℕ} → Binds x hold k hold′ → used ≡ used′
-    → Opens x stage used′ from sent hold (record { stage = stage; held = k .len; used = used; from = from; sent = sent; bound = k .bound }) hold′
-opens-as stage from sent b q = record { is = λ i. record { stage = stage; held = b .long i; used = q i; from = from; sent = sent; bound = b .bound i }; holds = b .holds }
+pub opens-as : {x : Endpoint} (stage : Stage) (from sent decided : ℕ) {hold hold′ : List ℕ} {k : Held} {used used′ : ℕ} → Binds x hold k hold′ → used ≡ used′
+    → Opens x stage used′ from sent decided hold (record { stage = stage; held = k .len; used = used; from = from; sent = sent; bound = k .bound; attempts = decided }) hold′
+opens-as stage from sent decided b q = record { is = λ i. record { stage = stage; held = b .long i; used = q i; from = from; sent = sent; bound = b .bound i; attempts = decided }; holds = b .holds }
 
 -- a piece worked through
-pub takes-worked : (l : Lengths) (e : Reply) (h p hold : List ℕ) (bound : Bound) (stage : Stage) (begin place sent : ℕ) {from : ℕ} {r : Taken} {hold′ : List ℕ} → Worked l e (h ++ p) stage begin place sent → from ≡ dueFrom l e
-    → Keeps (sessionAt stage (namedAt e begin (h ++ p)) (drop place (h ++ p))) place h p hold bound r hold′ × (r .from ≡ from) × (r .sent ≡ sent) → Takes l e h p hold bound r hold′
-takes-worked l e h p hold bound stage begin place sent w f k =
+pub takes-worked : (l : Lengths) (e : Reply) (h p hold : List ℕ) (bound : Bound) (stage : Stage) (begin place sent decided : ℕ) {from : ℕ} {r : Taken} {hold′ : List ℕ} → Worked l e (h ++ p) stage begin place sent decided → from ≡ dueFrom l e
+    → Keeps (sessionAt stage (namedAt e begin (h ++ p)) (drop place (h ++ p))) place h p hold bound decided r hold′ × (r .from ≡ from) × (r .sent ≡ sent) → Takes l e h p hold bound r hold′
+takes-worked l e h p hold bound stage begin place sent decided w f k =
     let g = k .1 ∙ f in
     let n = k .2 in
     let s = w .few in
@@ -89,6 +95,8 @@ takes-worked l e h p hold bound stage begin place sent w f k =
       session = sessionAt stage (namedAt e begin (h ++ p)) (drop place (h ++ p));
       place = place;
       whole = λ b. rw (g, n) (w .whole b);
+      decided = decided;
+      decides = w .decides;
       keeps = k .0;
       few = omega arith;
       inside = omega (arith, due-inside l e, s);
@@ -109,7 +117,7 @@ from-start n hold p h =
 
 -- too few bytes to decide anything
 pub takes-few : (l : Lengths) (e : Reply) (p hold : List ℕ) (bound : Bound) {n : ℕ} {r : Taken} {hold′ : List ℕ} → n ≤ length hold → length hold ≡ 261 → n + length p < fewest e
-    → r ≡ record { stage = Awaiting e; held = n + length p; used = length p; from = 0; sent = 0; bound = bound } → hold′ ≡ overwrite hold n p → Takes l e (take n hold) p hold bound r hold′
+    → r ≡ record { stage = Awaiting e; held = n + length p; used = length p; from = 0; sent = 0; bound = bound; attempts = 1 } → hold′ ≡ overwrite hold n p → Takes l e (take n hold) p hold bound r hold′
 takes-few l e p hold bound {n} {r} {hold′} h long f q w =
     let m : length (take n hold) ≡ n = length-take n hold ∙ omega arith in
     let y : n + length p ≡ n + length p - 0 = omega arith in
@@ -118,7 +126,9 @@ takes-few l e p hold bound {n} {r} {hold′} h long f q w =
       session = waiting e (take n hold ++ p);
       place = 0;
       whole = λ b. rw q (stage-rests (keptIn l b) (Awaiting e) unbound (take n hold ++ p) (too-few e (take n hold ++ p) z, omega (arith, fewest-small e)));
-      keeps = keeps-waits 0 (take n hold) p hold m zero-le unbound refl (q ∙ ap (λ (k : ℕ). record { stage = Awaiting e; held = k; used = length p; from = 0; sent = 0; bound = bound }) y) (w ∙ sym (from-start n hold p h));
+      decided = 0;
+      decides = λ b. rests-decided (keptIn l b) (Awaiting e) (take n hold ++ p) (too-few e (take n hold ++ p) z, omega (arith, fewest-small e));
+      keeps = (keeps-waits 0 (take n hold) p hold m zero-le unbound refl (q ∙ ap (λ (k : ℕ). record { stage = Awaiting e; held = k; used = length p; from = 0; sent = 0; bound = bound; attempts = 1 }) y) (w ∙ sym (from-start n hold p h))) .0;
       few = rw q zero-le;
       inside = rw q zero-le;
     }

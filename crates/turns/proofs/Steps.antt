@@ -1,5 +1,5 @@
 -- What a turn does is what the talk does with the same bytes.
-use Prim.Native.Nat.{ℕ, _+_, _<_}
+use Prim.Native.Nat.{ℕ, suc, _+_, _<_}
 use native.Mathlib.Omega.{arith}
 use mathlib.Core.Path.{_≡_, refl, ap}
 use mathlib.Core.Bool.{Bool, true, false}
@@ -14,7 +14,7 @@ use Rattle.protocol.specs.declared.Decision.the-variants.{Undecided, Decided}
 use Rattle.protocol.specs.Bound.{Endpoint, boundBy}
 use Rattle.protocol.specs.Replies.{decide}
 use Rattle.protocol.proofs.Named.{bound-first}
-use Rattle.protocol.specs.Client.{Kept, due, talkAt, client}
+use Rattle.protocol.specs.Client.{Kept, ClientTalk, due, talkAt, client}
 use Rattle.sending.specs.declared.Lengths.{Lengths}
 use Rattle.sending.specs.declared.Stage.{Stage}
 use Rattle.sending.specs.declared.Stage.the-variants.{Awaiting, Open, Failed}
@@ -22,7 +22,8 @@ use Rattle.sending.specs.Stages.{SideFed, sessionAt, rank}
 use Rattle.sending.specs.Parts.{part, negotiationSize, authenticationSize, proxySize}
 use Rattle.sending.specs.Due.{unlessGone, dueAfter, dueFrom}
 use Rattle.bound.specs.Named.{lastOf}
-use Rattle.turns.specs.Turns.{keptIn, onStage, Rests}
+use Rattle.turns.specs.Turns.{keptIn, onStage, decidedAt, Rests}
+use Rattle.talk.specs.Attempts.{decidedIn}
 use Rattle.talk.specs.Talk.{done, failed, ended, waiting, unmoved, sending, moving, feed}
 
 -- ---- what a good reply makes due, the talk sends
@@ -74,6 +75,43 @@ module _ (c : Kept) where
   stage-rests (Awaiting e) x bs r = stage-waits e x bs (r .0)
   stage-rests Open x bs r = refl
   stage-rests (Failed y) x bs r = refl
+
+-- ---- F-11: a reply decided, and those decided behind it
+
+module _ (l : Lengths) (b : List ℕ) where
+  due-decides : (c : Kept) (o : Bool) (q : List ℕ) (t : ClientTalk) (bs : List ℕ) → decidedIn (client c) (due o q t) bs ≡ decidedIn (client c) t bs
+  unfolding decidedIn
+  due-decides c true q t bs = refl
+  due-decides c false q t bs = refl
+
+  pub decides-good : (e : Reply) (bs : List ℕ) (n : ℕ) → decide e bs ≡ Decided n Good → decidedAt (keptIn l b) (Awaiting e) bs ≡ suc (decidedAt (keptIn l b) (dueAfter l e .stage) (drop n bs))
+  unfolding decidedIn
+  decides-good (NegotiationRes NoAuth) bs n q = rw q (ap suc (due-decides (keptIn l b) (l .optimistic) (keptIn l b .proxy) (talkAt (keptIn l b) ProxyRes) (drop n bs)))
+  decides-good (NegotiationRes UserPass) bs n q = rw q (ap suc (due-decides (keptIn l b) (l .optimistic) (keptIn l b .authentication) (talkAt (keptIn l b) AuthenticationRes) (drop n bs)))
+  decides-good (NegotiationRes NoneAcceptable) bs n q = rw q
+  decides-good AuthenticationRes bs n q = rw q (ap suc (due-decides (keptIn l b) (l .optimistic) (keptIn l b .proxy) (talkAt (keptIn l b) ProxyRes) (drop n bs)))
+  decides-good ProxyRes bs n q = rw q
+  decides-good Response bs n q = rw q
+
+module _ (c : Kept) where
+  pub decides-bad : (e : Reply) (bs : List ℕ) (n : ℕ) (x : SocksError) → decide e bs ≡ Decided n (Bad x) → decidedAt c (Awaiting e) bs ≡ 1
+  unfolding decidedIn
+  decides-bad (NegotiationRes m) bs n x q = rw q
+  decides-bad AuthenticationRes bs n x q = rw q
+  decides-bad ProxyRes bs n x q = rw q
+  decides-bad Response bs n x q = rw q
+
+  decides-none : (e : Reply) (bs : List ℕ) → decide e bs ≡ Undecided → decidedAt c (Awaiting e) bs ≡ 0
+  unfolding decidedIn
+  decides-none (NegotiationRes m) bs q = rw q
+  decides-none AuthenticationRes bs q = rw q
+  decides-none ProxyRes bs q = rw q
+  decides-none Response bs q = rw q
+
+  pub rests-decided : (stage : Stage) (bs : List ℕ) → Rests stage bs → decidedAt c stage bs ≡ 0
+  rests-decided (Awaiting e) bs r = decides-none e bs (r .0)
+  rests-decided Open bs r = refl
+  rests-decided (Failed y) bs r = refl
 
 -- ---- the loop ends
 

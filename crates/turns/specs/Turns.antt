@@ -22,6 +22,7 @@ use Rattle.sending.specs.Due.{dueJudged, dueFrom, stillDue}
 use Rattle.bound.specs.Named.{lastOf, Whole}
 use Rattle.turns.specs.declared.Taken.{Taken}
 use Rattle.talk.specs.Talk.{done, failed, ended, unmoved, feed, heldBy}
+use Rattle.talk.specs.Attempts.{decidedIn, oneIfWaiting}
 
 -- requests of these lengths, whatever their bytes
 abbrev pub keptIn : Lengths → List ℕ → Kept
@@ -52,6 +53,22 @@ turnBytes (Awaiting e) bs = decidedBytes (decide e bs)
 turnBytes Open bs = 0
 turnBytes (Failed x) bs = 0
 
+-- F-11: how many replies it decides
+abbrev pub oneDecided : Decision → ℕ
+oneDecided Undecided = 0
+oneDecided (Decided n v) = 1
+
+abbrev pub turnDecided : Stage → List ℕ → ℕ
+turnDecided (Awaiting e) bs = oneDecided (decide e bs)
+turnDecided Open bs = 0
+turnDecided (Failed x) bs = 0
+
+-- how many replies bytes decide from a stage on
+abbrev pub decidedAt : Kept → Stage → List ℕ → ℕ
+decidedAt c (Awaiting e) bs = decidedIn (client c) (talkAt c e) bs
+decidedAt c Open bs = 0
+decidedAt c (Failed x) bs = 0
+
 -- a reply is awaited, and a byte is unread
 abbrev pub goesOn : Stage → ℕ → ℕ → Bool
 goesOn (Awaiting e) place total = ltb place total
@@ -70,11 +87,12 @@ turnBegin (Awaiting e) begin place = place
 turnBegin Open begin place = begin
 turnBegin (Failed x) begin place = begin
 
-pub record Turns (l : Lengths) (from : Stage) (bytes : List ℕ) (begin place sent : ℕ) (stage : Stage) (begin′ place′ sent′ : ℕ) (again : Bool) : Type 0 where
+pub record Turns (l : Lengths) (from : Stage) (bytes : List ℕ) (begin place sent decided : ℕ) (stage : Stage) (begin′ place′ sent′ decided′ : ℕ) (again : Bool) : Type 0 where
   pub staged : stage ≡ dueTurn l from (drop place bytes) .stage
   pub counted : sent′ ≡ sent + dueTurn l from (drop place bytes) .len
   pub begun : begin′ ≡ turnBegin from begin place
   pub placed : place′ ≡ place + turnBytes from (drop place bytes)
+  pub tried : decided′ ≡ decided + turnDecided from (drop place bytes)
   pub falls : again ≡ true → rank stage < rank from
   pub rests : again ≡ false → Rests stage (drop place′ bytes)
 
@@ -89,25 +107,28 @@ Ready Open e begin bytes = (begin ≤ length bytes) × Whole e (drop begin bytes
 Ready (Failed x) e begin bytes = Unit {0}
 
 -- a delivery worked through: all that the bytes do, whatever the bytes of the requests
-pub record Worked (l : Lengths) (e : Reply) (bytes : List ℕ) (stage : Stage) (begin place sent : ℕ) : Type 0 where
+pub record Worked (l : Lengths) (e : Reply) (bytes : List ℕ) (stage : Stage) (begin place sent decided : ℕ) : Type 0 where
   pub whole : (b : List ℕ) → feed (client (keptIn l b)) (talkAt (keptIn l b) e) bytes ≡ record { session = sessionAt stage (namedAt e begin bytes) (drop place bytes); sent = part b (dueFrom l e) sent; place = place }
+  pub decides : (b : List ℕ) → decidedIn (client (keptIn l b)) (talkAt (keptIn l b) e) bytes ≡ decided
+  pub most : decided ≤ 3
   pub inside : place ≤ length bytes
   pub rests : Rests stage (drop place bytes)
   pub ready : Ready stage e begin bytes
   pub few : sent ≤ stillDue (Awaiting e)
 
 -- what a piece comes to where nothing is left to do behind a place: what a session then has stands at the hold's start
-pub record Keeps (m : SideSession) (place : ℕ) (held piece hold : List ℕ) (bound : Bound) (r : Taken) (hold′ : List ℕ) : Type 0 where
+pub record Keeps (m : SideSession) (place : ℕ) (held piece hold : List ℕ) (bound : Bound) (decided : ℕ) (r : Taken) (hold′ : List ℕ) : Type 0 where
   pub staged : r .stage ≡ stageOf m
   pub bounds : r .bound ≡ boundAfter m bound
   pub counts : r .held ≡ length (holdsOf m)
   pub holds : hold′ ≡ holdsOf m ++ drop (length (holdsOf m)) hold
   pub uses : r .used ≡ place + length (heldBy m) - length held
   pub within : r .used ≤ length piece
+  pub tries : r .attempts ≡ decided + oneIfWaiting m
 
 -- a session that opens: what its last reply names stands at the hold's start
-pub record Opens (x : Endpoint) (stage : Stage) (used from sent : ℕ) (hold : List ℕ) (r : Taken) (hold′ : List ℕ) : Type 0 where
-  pub is : r ≡ record { stage = stage; held = length (bytesIn (x .address)); used = used; from = from; sent = sent; bound = boundOf x }
+pub record Opens (x : Endpoint) (stage : Stage) (used from sent decided : ℕ) (hold : List ℕ) (r : Taken) (hold′ : List ℕ) : Type 0 where
+  pub is : r ≡ record { stage = stage; held = length (bytesIn (x .address)); used = used; from = from; sent = sent; bound = boundOf x; attempts = decided }
   pub holds : hold′ ≡ bytesIn (x .address) ++ drop (length (bytesIn (x .address))) hold
 
 -- a piece taken: all that held bytes and piece do, whatever the bytes of the requests
@@ -115,6 +136,8 @@ pub record Takes (l : Lengths) (e : Reply) (held piece hold : List ℕ) (bound :
   pub session : SideSession
   pub place : ℕ
   pub whole : (b : List ℕ) → feed (client (keptIn l b)) (talkAt (keptIn l b) e) (held ++ piece) ≡ record { session = session; sent = part b (r .from) (r .sent); place = place }
-  pub keeps : Keeps session place held piece hold bound r hold′
+  pub decided : ℕ
+  pub decides : (b : List ℕ) → decidedIn (client (keptIn l b)) (talkAt (keptIn l b) e) (held ++ piece) ≡ decided
+  pub keeps : Keeps session place held piece hold bound decided r hold′
   pub few : r .sent ≤ stillDue (Awaiting e)
   pub inside : r .from + r .sent ≤ 778

@@ -23,12 +23,13 @@ use sending::due_judged;
 use wire::least;
 
 // Where a delivery stands: the stage, the places in the held bytes and the piece at which the last reply read begins and behind which
-// all is unread, how many bytes became due, and whether another turn follows.
+// all is unread, how many bytes became due, how many replies were decided, and whether another turn follows.
 pub struct Turn {
     pub stage: Stage,
     pub begin: usize,
     pub place: usize,
     pub sent: usize,
+    pub decided: u64,
     pub again: bool,
 }
 
@@ -43,8 +44,8 @@ fn goes_on(stage: Stage, place: usize, total: usize) -> bool
     }
 }
 
-// What a piece comes to beside the hold: the stage, how many bytes are held and were used, the part of the requests that became due, and
-// the bound address but for its bytes.
+// What a piece comes to beside the hold: the stage, how many bytes are held and were used, the part of the requests that became due, the
+// bound address but for its bytes, and the attempts.
 pub struct Taken {
     pub stage: Stage,
     pub held: usize,
@@ -52,17 +53,19 @@ pub struct Taken {
     pub from: usize,
     pub sent: usize,
     pub bound: Bound,
+    pub attempts: u64,
 }
 
 // A delivery begins at a stage that waits for a reply.
 fn first(reply: Reply) -> Turn
-    ensures { λ r. ⌜ r ≡ record { stage = Stage.Awaiting reply; begin = 0; place = 0; sent = 0; again = true } ⌝ }
+    ensures { λ r. ⌜ r ≡ record { stage = Stage.Awaiting reply; begin = 0; place = 0; sent = 0; decided = 0; again = true } ⌝ }
 {
     Turn {
         stage: Stage::Awaiting(reply),
         begin: 0,
         place: 0,
         sent: 0,
+        decided: 0,
         again: true,
     }
 }
@@ -77,8 +80,8 @@ fn used_behind(place: usize, n: usize) -> usize
 impl Turn {
     // A turn at a stage that waits for a reply.
     fn read(self, lengths: Lengths, reply: Reply, held: &[u8], piece: &[u8]) -> Turn
-        requires { ⌜ (self .place ≤ length (now held) + length (now piece)) × (self .sent + stillDue (Stage.Awaiting reply) ≤ 775) ⌝ }
-        ensures { λ r. ⌜ Turns lengths (Stage.Awaiting reply) (now (held .entry) ++ now (piece .entry)) (self .begin) (self .place) (self .sent) (r .stage) (r .begin) (r .place) (r .sent) (r .again) ⌝ }
+        requires { ⌜ (self .place ≤ length (now held) + length (now piece)) × (self .sent + stillDue (Stage.Awaiting reply) ≤ 775) × (self .decided ≤ 3) ⌝ }
+        ensures { λ r. ⌜ Turns lengths (Stage.Awaiting reply) (now (held .entry) ++ now (piece .entry)) (self .begin) (self .place) (self .sent) (self .decided) (r .stage) (r .begin) (r .place) (r .sent) (r .decided) (r .again) ⌝ }
     {
         match read_at(reply, held, piece, self.place) {
             Decision::Undecided => Turn {
@@ -86,6 +89,7 @@ impl Turn {
                 begin: self.place,
                 place: self.place,
                 sent: self.sent,
+                decided: self.decided,
                 again: false,
             },
             Decision::Decided(n, verdict) => {
@@ -97,6 +101,7 @@ impl Turn {
                     begin: self.place,
                     place: place,
                     sent: self.sent + due.len,
+                    decided: self.decided + 1,
                     again: goes_on(stage, place, held.len() + piece.len()),
                 }
             }
@@ -105,8 +110,8 @@ impl Turn {
 
     // A turn from wherever the delivery stands.
     fn next(self, lengths: Lengths, held: &[u8], piece: &[u8]) -> Turn
-        requires { ⌜ (self .place ≤ length (now held) + length (now piece)) × (self .sent + stillDue (self .stage) ≤ 775) ⌝ }
-        ensures { λ r. ⌜ Turns lengths (self .stage) (now (held .entry) ++ now (piece .entry)) (self .begin) (self .place) (self .sent) (r .stage) (r .begin) (r .place) (r .sent) (r .again) ⌝ }
+        requires { ⌜ (self .place ≤ length (now held) + length (now piece)) × (self .sent + stillDue (self .stage) ≤ 775) × (self .decided ≤ 3) ⌝ }
+        ensures { λ r. ⌜ Turns lengths (self .stage) (now (held .entry) ++ now (piece .entry)) (self .begin) (self .place) (self .sent) (self .decided) (r .stage) (r .begin) (r .place) (r .sent) (r .decided) (r .again) ⌝ }
     {
         let stage = self.stage;
         match stage {
@@ -118,7 +123,7 @@ impl Turn {
 
     // No turn follows.
     fn last(self) -> Turn
-        ensures { λ r. ⌜ r ≡ record { stage = self .stage; begin = self .begin; place = self .place; sent = self .sent; again = false } ⌝ }
+        ensures { λ r. ⌜ r ≡ record { stage = self .stage; begin = self .begin; place = self .place; sent = self .sent; decided = self .decided; again = false } ⌝ }
     {
         let stage = self.stage;
         Turn {
@@ -126,13 +131,14 @@ impl Turn {
             begin: self.begin,
             place: self.place,
             sent: self.sent,
+            decided: self.decided,
             again: false,
         }
     }
 
     // The session has failed and holds nothing.
     fn failed(self, n: usize, from: usize, bound: Bound) -> Taken
-        ensures { λ r. ⌜ r ≡ record { stage = self .stage; held = 0; used = self .place - n; from = from; sent = self .sent; bound = bound } ⌝ }
+        ensures { λ r. ⌜ r ≡ record { stage = self .stage; held = 0; used = self .place - n; from = from; sent = self .sent; bound = bound; attempts = self .decided } ⌝ }
     {
         let stage = self.stage;
         Taken {
@@ -142,13 +148,14 @@ impl Turn {
             from: from,
             sent: self.sent,
             bound: bound,
+            attempts: self.decided,
         }
     }
 
     // The session waits, and holds what is unread of n held bytes and the piece.
     fn waits(self, hold: &mut [u8], n: usize, piece: &[u8], from: usize, bound: Bound) -> Taken
-        requires { ⌜ (length (now hold) ≡ 261) × (n ≤ 261) × (self .place ≤ n + length (now piece)) × (n + length (now piece) ≤ self .place + 261) ⌝ }
-        ensures { λ r. ⌜ (r ≡ record { stage = self .stage; held = n + length (now (piece .entry)) - self .place; used = length (now (piece .entry)); from = from; sent = self .sent; bound = bound }) × (now (hold .exit) ≡ overwrite (now (hold .entry)) 0 (drop (self .place) (take n (now (hold .entry)) ++ now (piece .entry)))) ⌝ }
+        requires { ⌜ (length (now hold) ≡ 261) × (n ≤ 261) × (self .place ≤ n + length (now piece)) × (n + length (now piece) ≤ self .place + 261) × (self .decided ≤ 3) ⌝ }
+        ensures { λ r. ⌜ (r ≡ record { stage = self .stage; held = n + length (now (piece .entry)) - self .place; used = length (now (piece .entry)); from = from; sent = self .sent; bound = bound; attempts = self .decided + 1 }) × (now (hold .exit) ≡ overwrite (now (hold .entry)) 0 (drop (self .place) (take n (now (hold .entry)) ++ now (piece .entry)))) ⌝ }
     {
         let stage = self.stage;
         keep_rest(hold, n, piece, self.place);
@@ -159,13 +166,14 @@ impl Turn {
             from: from,
             sent: self.sent,
             bound: bound,
+            attempts: self.decided + 1,
         }
     }
 
     // The session is open, and what its last reply names is kept at the hold's start.
     fn opened(self, reply: Reply, hold: &mut [u8], n: usize, piece: &[u8], from: usize) -> Taken
         requires { ⌜ (length (now hold) ≡ 261) × (n ≤ 261) × (self .place ≤ n + length (now piece)) × Ready Stage.Open reply (self .begin) (take n (now hold) ++ now piece) ⌝ }
-        ensures { λ r. ⌜ Opens (namedAt reply (self .begin) (take n (now (hold .entry)) ++ now (piece .entry))) (self .stage) (self .place - n) from (self .sent) (now (hold .entry)) r (now (hold .exit)) ⌝ }
+        ensures { λ r. ⌜ Opens (namedAt reply (self .begin) (take n (now (hold .entry)) ++ now (piece .entry))) (self .stage) (self .place - n) from (self .sent) (self .decided) (now (hold .entry)) r (now (hold .exit)) ⌝ }
     {
         let stage = self.stage;
         let kept = bound::keep(reply, hold, n, piece, self.begin);
@@ -177,6 +185,7 @@ impl Turn {
             from: from,
             sent: self.sent,
             bound: bound,
+            attempts: self.decided,
         }
     }
 
@@ -190,8 +199,8 @@ impl Turn {
         from: usize,
         bound: Bound,
     ) -> Taken
-        requires { ⌜ (length (now hold) ≡ 261) × (n ≤ 261) × (self .place ≤ n + length (now piece)) × Rests (self .stage) (drop (self .place) (take n (now hold) ++ now piece)) × Ready (self .stage) reply (self .begin) (take n (now hold) ++ now piece) ⌝ }
-        ensures { λ r. ⌜ Keeps (sessionAt (self .stage) (namedAt reply (self .begin) (take n (now (hold .entry)) ++ now (piece .entry))) (drop (self .place) (take n (now (hold .entry)) ++ now (piece .entry)))) (self .place) (take n (now (hold .entry))) (now (piece .entry)) (now (hold .entry)) bound r (now (hold .exit)) × (r .from ≡ from) × (r .sent ≡ self .sent) ⌝ }
+        requires { ⌜ (length (now hold) ≡ 261) × (n ≤ 261) × (self .place ≤ n + length (now piece)) × Rests (self .stage) (drop (self .place) (take n (now hold) ++ now piece)) × Ready (self .stage) reply (self .begin) (take n (now hold) ++ now piece) × (self .decided ≤ 3) ⌝ }
+        ensures { λ r. ⌜ Keeps (sessionAt (self .stage) (namedAt reply (self .begin) (take n (now (hold .entry)) ++ now (piece .entry))) (drop (self .place) (take n (now (hold .entry)) ++ now (piece .entry)))) (self .place) (take n (now (hold .entry))) (now (piece .entry)) (now (hold .entry)) bound (self .decided) r (now (hold .exit)) × (r .from ≡ from) × (r .sent ≡ self .sent) ⌝ }
     {
         let stage = self.stage;
         match stage {
@@ -204,7 +213,7 @@ impl Turn {
 
 // Works through held bytes and a piece until the session waits, opens or fails: at most three replies.
 fn work(lengths: Lengths, reply: Reply, held: &[u8], piece: &[u8]) -> Turn
-    ensures { λ r. ⌜ Worked lengths reply (now (held .entry) ++ now (piece .entry)) (r .stage) (r .begin) (r .place) (r .sent) ⌝ }
+    ensures { λ r. ⌜ Worked lengths reply (now (held .entry) ++ now (piece .entry)) (r .stage) (r .begin) (r .place) (r .sent) (r .decided) ⌝ }
 {
     let mut turn = first(reply);
     let mut left: usize = 3;
@@ -239,6 +248,7 @@ pub fn take(
             from: 0,
             sent: 0,
             bound: bound,
+            attempts: 1,
         };
     }
     let turn = work(lengths, reply, &hold[..n], piece);

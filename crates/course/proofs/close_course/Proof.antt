@@ -11,11 +11,11 @@ output-requires c κs = search needs
 array-borrow-prefix-out : tie.Need-array-borrow-prefix-out
 array-borrow-prefix-out c = search needs
 
-slice-aggregate-put-bound : tie.Need-slice-aggregate-put-bound
-slice-aggregate-put-bound c = sym (length-take-le _ _ (search needs))
+slice-aggregate-put-asked : tie.Need-slice-aggregate-put-asked
+slice-aggregate-put-asked c = sym (length-take-le _ _ (search needs))
 
-put-bound-requires : tie.Need-put-bound-requires
-put-bound-requires c κs =
+put-asked-requires : tie.Need-put-asked-requires
+put-asked-requires c κs =
     let s = c .before .before .before .before in
     (short (s .args .lent) 2048 _ (s .pre .0), s .pre .1)
 
@@ -31,7 +31,7 @@ close-course-spec =
     (tie.spec
     output-requires
     array-borrow-prefix-out
-    slice-aggregate-put-bound
-    put-bound-requires
+    slice-aggregate-put-asked
+    put-asked-requires
     same-length
     returns)

@@ -1,9 +1,13 @@
-use Rattle.numerals.proofs.Laws.{one, then}
+use Rattle.numerals.proofs.Laws.{nothing, one, then}
 use lib.ListN.{length-set}
 use native.Mathlib.Omega.{arith}
+use borrow.Author.Tests.{not-true, not-false}
 use borrow.Author.Needs.{needs}
 use Rattle.report.proofs.put_bound.Statement.{statement}
 use Rattle.report.proofs.put_bound.Tie as tie
+
+returns : tie.Need-returns
+returns c = (search needs, rw (not-true (c .before .before .before .args .asks) (c .if1 .taken)) (nothing _ _))
 
 slice-write-text : tie.Need-slice-write-text
 slice-write-text c = search needs
@@ -14,26 +18,32 @@ add-put-number c = search needs
 put-number-requires : tie.Need-put-number-requires
 put-number-requires c κs = simp length-set (omega arith)
 
-put-text-requires : tie.Need-put-text-requires
-put-text-requires c κs =
-    let k = then (one (c .before .before .before .before .before .before .before .args .text .now) (c .before .before .before .before .before .before .before .args .at) _ (omega arith)) (c .before .before .before .put-number .ensures .1) in
+put-field-requires : tie.Need-put-field-requires
+put-field-requires c κs =
+    let a = c .before .before .before .before .before .before .before .before .args in
+    let k = then (one (a .text .now) (a .at) _ (omega arith)) (c .before .before .before .put-number .ensures .1) in
     omega (arith, k .same)
 
 same-length : tie.Need-same-length
 same-length c =
-    let k = then (then (one (c .before .before .before .before .before .before .before .before .before .before .args .text .now) (c .before .before .before .before .before .before .before .before .before .before .args .at) _ (omega arith)) (c .before .before .before .before .before .before .put-number .ensures .1)) (c .before .before .put-text .ensures .1) in
+    let a = c .before .before .before .before .before .before .before .before .before .before .before .args in
+    let k = then (then (one (a .text .now) (a .at) _ (omega arith)) (c .before .before .before .before .before .before .put-number .ensures .1)) (c .before .before .put-field .ensures .1) in
     k .same
 
-returns : tie.Need-returns
-returns c = (omega arith, then (then (one (c .before .before .before .before .before .before .before .before .before .before .args .text .now) (c .before .before .before .before .before .before .before .before .before .before .args .at) _ (omega arith)) (c .before .before .before .before .before .before .put-number .ensures .1)) (c .before .before .put-text .ensures .1))
+returns-2 : tie.Need-returns-2
+returns-2 c =
+    let a = c .before .before .before .before .before .before .before .before .before .before .before .args in
+    let k = then (then (one (a .text .now) (a .at) _ (omega arith)) (c .before .before .before .before .before .before .put-number .ensures .1)) (c .before .before .put-field .ensures .1) in
+    (omega arith, rw (not-false (a .asks) (c .before .before .before .before .before .before .before .before .if1 .left)) k)
 
 pub put-bound-spec : {M : Type 1} → statement M
 put-bound-spec =
     tie.close
     (tie.spec
+    returns
     slice-write-text
     add-put-number
     put-number-requires
-    put-text-requires
+    put-field-requires
     same-length
-    returns)
+    returns-2)

@@ -51,7 +51,7 @@ taken-requires c κs =
     let p = start .pre in
     let w = c .before .before .work .ensures in
     let i = w .inside in
-    (p .0, p .1, omega (arith, i, length-append (take (a .n) (a .hold .now)) (a .piece .now), held-long (a .n) (a .hold .now) (p .0) (p .1)), w .rests, w .ready)
+    (p .0, p .1, omega (arith, i, length-append (take (a .n) (a .hold .now)) (a .piece .now), held-long (a .n) (a .hold .now) (p .0) (p .1)), w .rests, w .ready, w .most)
 
 same-length-2 : tie.Need-same-length-2
 same-length-2 c = search needs
@@ -60,7 +60,7 @@ returns-2 : tie.Need-returns-2
 returns-2 c =
     let a = c .before .before .before .before .before .before .before .before .before .before .before .args in
     let w = c .before .before .before .before .before .work in
-    takes-worked (a .lengths) (a .reply) (take (a .n) (a .hold .now)) (a .piece .now) (a .hold .now) (a .bound) (w .result .stage) (w .result .begin) (w .result .place) (w .result .sent) (w .ensures) (c .before .before .before .due-from .ensures) (c .before .before .taken .ensures)
+    takes-worked (a .lengths) (a .reply) (take (a .n) (a .hold .now)) (a .piece .now) (a .hold .now) (a .bound) (w .result .stage) (w .result .begin) (w .result .place) (w .result .sent) (w .result .decided) (w .ensures) (c .before .before .before .due-from .ensures) (c .before .before .taken .ensures)
 
 pub take-spec : {M : Type 1} → statement M
 take-spec =

@@ -9,7 +9,7 @@ use Rattle.turns.proofs.work.Statement.{statement}
 use Rattle.turns.proofs.work.Tie as tie
 
 abbrev Inv-loop : tie.InvT-loop
-Inv-loop lengths held piece turn₀ left₀ turn left = Loops lengths (turn₀ .stage) (held ++ piece) (turn .stage) (turn .begin) (turn .place) (turn .sent) left
+Inv-loop lengths held piece turn₀ left₀ turn left = Loops lengths (turn₀ .stage) (held ++ piece) (turn .stage) (turn .begin) (turn .place) (turn .sent) (turn .decided) left
 
 abbrev μ-loop : tie.MeasureT-loop
 μ-loop lengths held piece turn₀ left₀ turn left = left
@@ -31,7 +31,7 @@ next-requires c κs =
     let a = start .args in
     let g = c .before .loop .inv .going in
     let i = g .inside in
-    (omega (arith, i, length-append (a .held .now) (a .piece .now)), omega (arith, g .room, still-small (c .before .loop .inv .reply)))
+    (omega (arith, i, length-append (a .held .now) (a .piece .now)), omega (arith, g .room, still-small (c .before .loop .inv .reply)), omega (arith, c .before .loop .inv .most))
 
 loop-less : tie.Need-loop-less Inv-loop μ-loop
 loop-less c = search needs

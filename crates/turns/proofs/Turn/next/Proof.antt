@@ -14,7 +14,7 @@ enum-known-stage c = search needs
 read-requires : tie.Need-read-requires
 read-requires c κs =
     let p = c .before .before .before .before .before .pre in
-    (p .0, omega (arith, ap stillDue (c .before .stage .given .1), p .1))
+    (p .0, omega (arith, ap stillDue (c .before .stage .given .1), p .1), p .2)
 
 enum-told : tie.Need-enum-told
 enum-told c = search needs
@@ -34,12 +34,12 @@ returns c = rw (c .before .before .stage .given .1) (c .read .ensures)
 returns-2 : tie.Need-returns-2
 returns-2 c =
     let a = c .before .before .before .before .before .args in
-    rw (c .last .ensures) (turn-settled (a .lengths) (a .self .stage) (a .held .now ++ a .piece .now) (a .self .begin) (a .self .place) (a .self .sent) (ap rank (c .before .enum-told .given .1)))
+    rw (c .last .ensures) (turn-settled (a .lengths) (a .self .stage) (a .held .now ++ a .piece .now) (a .self .begin) (a .self .place) (a .self .sent) (a .self .decided) (ap rank (c .before .enum-told .given .1)))
 
 returns-3 : tie.Need-returns-3
 returns-3 c =
     let a = c .before .before .before .before .before .before .args in
-    rw (c .last2 .ensures) (turn-settled (a .lengths) (a .self .stage) (a .held .now ++ a .piece .now) (a .self .begin) (a .self .place) (a .self .sent) (ap rank (c .before .before .stage2 .given .1)))
+    rw (c .last2 .ensures) (turn-settled (a .lengths) (a .self .stage) (a .held .now ++ a .piece .now) (a .self .begin) (a .self .place) (a .self .sent) (a .self .decided) (ap rank (c .before .before .stage2 .given .1)))
 
 pub next-spec : {M : Type 1} → statement M
 next-spec =

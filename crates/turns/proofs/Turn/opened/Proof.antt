@@ -16,7 +16,7 @@ same-length : tie.Need-same-length
 same-length c = search needs
 
 returns : tie.Need-returns
-returns c = let a = c .before .before .before .before .before .before .before .before .args in opens-as (a .self .stage) (a .from) (a .self .sent) (c .before .before .before .before .keep .ensures) (c .used-behind .ensures)
+returns c = let a = c .before .before .before .before .before .before .before .before .args in opens-as (a .self .stage) (a .from) (a .self .sent) (a .self .decided) (c .before .before .before .before .keep .ensures) (c .used-behind .ensures)
 
 pub opened-spec : {M : Type 1} → statement M
 opened-spec = tie.close (tie.spec keep-requires used-behind-requires same-length returns)

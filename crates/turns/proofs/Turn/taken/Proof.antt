@@ -1,7 +1,6 @@
-use mathlib.Core.Path.{refl, ap}
+use mathlib.Core.Path.{refl}
 use mathlib.Core.List.{_++_}
 use lib.ListN.{take}
-use Rattle.turns.specs.declared.Taken.{Taken}
 use Rattle.turns.specs.Turns.{namedAt}
 use Rattle.turns.proofs.Keeping.{held-long, unread-few, rests-few, ready-open, keeps-waits, keeps-failed, keeps-open}
 use borrow.Author.Needs.{needs}
@@ -16,7 +15,7 @@ waits-requires c κs =
     let start = c .before .before .before .before .before .before in
     let a = start .args in
     let p = start .pre in
-    (p .0, p .1, p .2, unread-few (a .self .place) (a .n) (a .hold .now) (a .piece .now) (p .0) (p .1) (rests-few _ (c .before .before .stage .given .1) (p .3)))
+    (p .0, p .1, p .2, unread-few (a .self .place) (a .n) (a .hold .now) (a .piece .now) (p .0) (p .1) (rests-few _ (c .before .before .stage .given .1) (p .3)), p .5)
 
 enum-told : tie.Need-enum-told
 enum-told c = search needs
@@ -42,11 +41,8 @@ returns c =
     let a = start .args in
     let p = start .pre in
     let w = c .before .before .waits .ensures in
-    let h = take (a .n) (a .hold .now) in (
-      keeps-waits (a .self .place) h (a .piece .now) (a .hold .now) (held-long (a .n) (a .hold .now) (p .0) (p .1)) (p .2) (namedAt (a .reply) (a .self .begin) (h ++ a .piece .now)) (c .before .before .before .before .before .stage .given .1) (w .0) (w .1),
-      ap (λ (t : Taken). t .from) (w .0),
-      ap (λ (t : Taken). t .sent) (w .0),
-    )
+    let h = take (a .n) (a .hold .now) in
+    keeps-waits (a .self .place) h (a .piece .now) (a .hold .now) (held-long (a .n) (a .hold .now) (p .0) (p .1)) (p .2) (namedAt (a .reply) (a .self .begin) (h ++ a .piece .now)) (c .before .before .before .before .before .stage .given .1) (w .0) (w .1)
 
 returns-2 : tie.Need-returns-2
 returns-2 c =
@@ -54,11 +50,8 @@ returns-2 c =
     let a = start .args in
     let p = start .pre in
     let w = c .before .before .opened .ensures in
-    let h = take (a .n) (a .hold .now) in (
-      keeps-open (a .self .place) h (a .piece .now) (a .hold .now) (held-long (a .n) (a .hold .now) (p .0) (p .1)) (p .2) (namedAt (a .reply) (a .self .begin) (h ++ a .piece .now)) (c .before .before .before .before .enum-told .given .1) w,
-      ap (λ (t : Taken). t .from) (w .is),
-      ap (λ (t : Taken). t .sent) (w .is),
-    )
+    let h = take (a .n) (a .hold .now) in
+    keeps-open (a .self .place) h (a .piece .now) (a .hold .now) (held-long (a .n) (a .hold .now) (p .0) (p .1)) (p .2) (namedAt (a .reply) (a .self .begin) (h ++ a .piece .now)) (c .before .before .before .before .enum-told .given .1) w
 
 returns-3 : tie.Need-returns-3
 returns-3 c =
@@ -66,11 +59,8 @@ returns-3 c =
     let a = start .args in
     let p = start .pre in
     let w = c .failed .ensures in
-    let h = take (a .n) (a .hold .now) in (
-      keeps-failed (a .self .place) h (a .piece .now) (a .hold .now) (held-long (a .n) (a .hold .now) (p .0) (p .1)) (p .2) (namedAt (a .reply) (a .self .begin) (h ++ a .piece .now)) (c .before .before .stage2 .given .1) w refl,
-      ap (λ (t : Taken). t .from) w,
-      ap (λ (t : Taken). t .sent) w,
-    )
+    let h = take (a .n) (a .hold .now) in
+    keeps-failed (a .self .place) h (a .piece .now) (a .hold .now) (held-long (a .n) (a .hold .now) (p .0) (p .1)) (p .2) (namedAt (a .reply) (a .self .begin) (h ++ a .piece .now)) (c .before .before .stage2 .given .1) w refl
 
 pub taken-spec : {M : Type 1} → statement M
 taken-spec =

@@ -1,0 +1,70 @@
+-- F-11: the attempts of a tunnel, by the plain machine's decisions on the joined bytes up to each delivery, and its bounds.
+use Prim.Native.Nat.{ℕ, _+_, _-_, _%_, _^_, _≤_}
+use mathlib.Core.Path.{_≡_}
+use mathlib.Core.Bool.{Bool, true, false, cond, _&&_}
+use mathlib.Core.List.{List, [], _∷_, _++_}
+use lib.ListN.{length}
+use lib.Dec.{ltb}
+use Rattle.protocol.specs.declared.Answer.{Answer}
+use Rattle.protocol.specs.declared.Answer.the-variants.{Accepted, Refused}
+use Rattle.protocol.specs.declared.Outcome.{Outcome}
+use Rattle.protocol.specs.declared.Outcome.the-variants.{Waiting, Open, Failed}
+use Rattle.protocol.specs.Opening.{Opening, deliveryRoom}
+use Rattle.protocol.specs.Machine.{machine, decidedOn}
+use Rattle.session.specs.declared.Session.{Session}
+use Rattle.session.specs.declared.Prepared.{Prepared}
+use Rattle.session.specs.Calls.{start, receiver}
+use Rattle.socks.specs.Demand3.{BytePieces}
+use Rattle.talk.specs.Tunnel.{Delivery, lends, answerTo, after}
+
+abbrev pub oneIf : Bool → ℕ
+oneIf b = cond b 1 0
+
+abbrev pub isWaiting : Outcome → Bool
+isWaiting Waiting = true
+isWaiting Open = false
+isWaiting (Failed e) = false
+
+abbrev pub isAccepted : Answer → Bool
+isAccepted Accepted = true
+isAccepted (Refused e) = false
+
+abbrev pub hasByte : Delivery → Bool
+hasByte d = ltb 0 (length (d .piece))
+
+abbrev pub lendsFor : Opening → Delivery → Bool
+lendsFor o d = lends (receiver (deliveryRoom o)) d
+
+-- a delivery behind joined bytes is accepted, and its piece is not empty: it lends what is asked, and the machine still waits
+abbrev pub counts : Opening → List ℕ → Delivery → Bool
+counts o before d = lendsFor o d && (hasByte d && isWaiting (machine o before .outcome))
+
+-- its attempts: the replies that lie decided in its piece, and one more if the machine then waits
+abbrev pub attemptsAt : Opening → List ℕ → Delivery → ℕ
+attemptsAt o before d =
+    cond (counts o before d) (decidedOn o (before ++ d .piece) - decidedOn o before + oneIf (isWaiting (machine o (before ++ d .piece) .outcome))) 0
+
+unfoldable pub attemptsOf : Opening → List ℕ → List Delivery → ℕ
+attemptsOf o before [] = 0
+attemptsOf o before (d ∷ ds) = attemptsAt o before d + attemptsOf o (before ++ cond (lendsFor o d) (d .piece) []) ds
+
+-- how many deliveries of nonempty pieces are accepted, by their answers
+unfoldable pub acceptedIn : Opening → Session → List Delivery → ℕ
+acceptedIn o s [] = 0
+acceptedIn o s (d ∷ ds) =
+    let a = answerTo (receiver (deliveryRoom o)) s d in
+    oneIf (isAccepted (a .answer) && hasByte d) + acceptedIn o (a .session) ds
+
+-- of an opening and the session that its start returned
+pub record Effort (o : Opening) (s : Session) (ds : List Delivery) : Type 0 where
+  -- the session carries that number; it wraps past what any list of deliveries reaches
+  pub attempts-are : after (receiver (deliveryRoom o)) s ds .attempts ≡ attemptsOf o [] ds % 2 ^ 64
+  -- it is at most the accepted nonempty deliveries plus three
+  pub attempts-few : after (receiver (deliveryRoom o)) s ds .attempts ≤ acceptedIn o s ds + 3
+  -- and the held bytes are never more than 261
+  pub held-few : after (receiver (deliveryRoom o)) s ds .held ≤ 261
+
+-- for what preparing returned, any output with which it is started, and every list of deliveries
+abbrev pub Tried : Prepared → Opening → Type 0
+Tried p o =
+    (out : List ℕ) → p .answer ≡ Accepted → start (p .session) out .answer ≡ Accepted → (ds : List Delivery) → BytePieces ds → Effort o (start (p .session) out .session) ds
