@@ -1,5 +1,5 @@
 -- What the parts of a start, a delivery and an end come to.
-use Prim.Native.Nat.{ℕ, _+_, _-_, _%_, _^_, _≤_, _<_, min, zero-le}
+use Prim.Native.Nat.{ℕ, _+_, _%_, _^_, _≤_, _<_}
 use native.Mathlib.Nat.{zero-add}
 use native.Mathlib.Omega.{arith}
 use mathlib.Core.Path.{_≡_, refl, ap, sym, _∙_}
@@ -9,24 +9,21 @@ use lib.ListN.{length, take, drop, length-take, length-drop, length-append}
 use lib.Seq.{length-take-le}
 use borrow.Author.Tests.{le-leb, lt-leb}
 use Rattle.protocol.specs.declared.Reply.{Reply}
-use Rattle.protocol.specs.declared.Reply.the-variants.{NegotiationRes, AuthenticationRes, ProxyRes, Response}
-use Rattle.protocol.specs.declared.AuthMethod.the-variants.{NoAuth, UserPass, NoneAcceptable}
 use Rattle.protocol.specs.declared.SocksError.{SocksError}
 use Rattle.protocol.specs.declared.SocksError.the-variants.{ShortOutput, UnexpectedEof, Settled, OutOfOrder}
+use Rattle.protocol.specs.declared.Answer as code
 use Rattle.protocol.specs.declared.Answer.the-variants.{Accepted, Refused}
 use Rattle.protocol.specs.declared.Outcome.the-variants as Out
 use lib.Dec.{leb}
 use Rattle.protocol.specs.declared.Bound.{Bound}
 use Rattle.protocol.specs.Client.{firstRoom, room, talkAt, client}
 use Rattle.wire.specs.Written.{overwrite}
-use Rattle.wire.proofs.Parts.{take-min}
 use Rattle.sending.specs.declared.Lengths.{Lengths}
 use Rattle.sending.specs.declared.Requests.{Requests}
 use Rattle.sending.specs.declared.Stage.{Stage}
 use Rattle.sending.specs.declared.Stage.the-variants.{Awaiting, Open, Failed}
-use Rattle.sending.specs.Stages.{SideFed, viewAt, rank}
+use Rattle.sending.specs.Stages.{viewAt, rank}
 use Rattle.sending.specs.Parts.{part, firstOf}
-use Rattle.sending.specs.Due.{stillDue}
 use Rattle.sending.proofs.Stages.{awaits}
 use Rattle.starting.specs.declared.Starting.{Starting}
 use Rattle.starting.specs.Starting.{firstSize, refused, startAt}
@@ -35,16 +32,13 @@ use Rattle.turns.specs.declared.Taken.{Taken}
 use Rattle.turns.specs.Turns.{keptIn, Takes}
 use Rattle.session.specs.declared.Session.{Session}
 use Rattle.session.specs.declared.Ended.{Ended}
-use Rattle.session.specs.declared.Received.{Received}
 use Rattle.session.specs.Session.{sideOf, heldBytes, view, packed, outcome}
 use Rattle.session.specs.Calls.{Call, refusal, Starts, started, starts, start, Delivers, delivered, moves, takes, deliver, end, endedBy}
 use Rattle.session.specs.Ends.{endAwaiting}
-use Rattle.session.specs.Received.{unchanged, sessionOf, sending, Receives}
+use Rattle.receiving.specs.declared.Received.{Received}
+use Rattle.receiving.specs.Received.{Ways, settled, unstarted, short, none, taken, Receives}
 use Rattle.talk.specs.Attempts.{decidedIn, decidedBy, oneIfWaiting, attemptsBy}
-use Rattle.talk.specs.Talk.{failed, ended, feed, onward, heldBy, isOver}
-
-pub take-least : (n : ℕ) (l : List ℕ) → length l ≡ 261 → take (min n 261) l ≡ take n l
-take-least n l h = rw (← h) (take-min n l)
+use Rattle.talk.specs.Talk.{failed, ended, feed, onward, isOver}
 
 -- ---- which way a delivery goes
 
@@ -64,80 +58,52 @@ takes-more : (s : Session) (piece out : List ℕ) → (length piece ≡ 0 → �
 takes-more s [] out h = absurd (h refl)
 takes-more s (b ∷ bs) out h = refl
 
--- what may become due fits the output lent
-still-room : (e : Reply) → stillDue (Awaiting e) ≤ room e
-still-room (NegotiationRes NoAuth) = omega arith
-still-room (NegotiationRes UserPass) = omega arith
-still-room (NegotiationRes NoneAcceptable) = omega arith
-still-room AuthenticationRes = omega arith
-still-room ProxyRes = omega arith
-still-room Response = omega arith
-
 -- a number of 64 bits stays as it is with no more
 no-more : (a : ℕ) → a < 2 ^ 64 → (a + 0) % 2 ^ 64 ≡ a
 no-more a h = omega arith
 
-module _ (g : Bool) (held : ℕ) (l : Lengths) (hold piece : List ℕ) (lent : ℕ) (x : Bound) where
-  pub receives-settled : (stage : Stage) → rank stage ≡ 0 → {r : Received} → r ≡ unchanged (Refused Settled) stage held x → Receives stage g held l hold piece lent x r hold
-  unfolding deliver
-  receives-settled stage z e = rw e (record { calls = λ a b out k h. rw (no-more a k, is-over stage x (take held hold) z); within = zero-le; fits = zero-le; inside = zero-le })
+-- what a call is on a session of these parts, and after it
+abbrev sessionOf : Stage → Bool → ℕ → List ℕ → Bound → ℕ → Lengths → List ℕ → Session
+sessionOf s g n hold x a l b = record { stage = s; started = g; held = n; hold = hold; bound = x; attempts = a; requests = record { lengths = l; bytes = b } }
 
-  module _ (e : Reply) {r : Received} where
-    pub receives-unstarted : g ≡ false → r ≡ unchanged (Refused OutOfOrder) (Awaiting e) held x → Receives (Awaiting e) g held l hold piece lent x r hold
-    unfolding deliver
-    receives-unstarted f q = rw (f, q) (record { calls = λ a b out i k. rw (no-more a i); within = zero-le; fits = zero-le; inside = zero-le })
+abbrev sending : code.Answer → Bool → Taken → List ℕ → ℕ → Lengths → List ℕ → List ℕ → Call
+sending r g t hold a l b out =
+    record {
+      answer = r;
+      session = sessionOf (t .stage) g (t .held) hold (t .bound) ((a + t .attempts) % 2 ^ 64) l b;
+      used = t .used;
+      sent = length (part b (t .from) (t .sent));
+      output = part b (t .from) (t .sent) ++ drop (length (part b (t .from) (t .sent))) out;
+    }
 
-    pub receives-short : g ≡ true → lent < room e → r ≡ unchanged (Refused ShortOutput) (Awaiting e) held x → Receives (Awaiting e) g held l hold piece lent x r hold
-    unfolding deliver
-    receives-short t h q = rw (t, q) (record { calls = λ a b out i k. rw (no-more a i, k, lt-leb (room e) lent h); within = zero-le; fits = zero-le; inside = zero-le })
-
-    pub receives-none : g ≡ true → room e ≤ lent → length piece ≡ 0 → r ≡ unchanged Accepted (Awaiting e) held x → Receives (Awaiting e) g held l hold piece lent x r hold
-    unfolding deliver
-    receives-none t h z q =
-        rw (t, q)
-        (record { calls = λ a b out i k. rw (no-more a i, k, le-leb (room e) lent h) (takes-none (sessionOf (Awaiting e) true held hold x a l b) piece out z); within = zero-le; fits = zero-le; inside = zero-le })
-
+module _ (g : Bool) (held : ℕ) (l : Lengths) (hold piece : List ℕ) (x : Bound) (a : ℕ) (small : a < 2 ^ 64) (b out : List ℕ) where
   -- a piece taken behind held bytes
-  module _ (e : Reply) {h : List ℕ} (q : h ≡ take held hold) {t : Taken} {hold′ : List ℕ} (w : Takes l e h piece hold x t hold′) where
-    moves-as : (a : ℕ) (b out : List ℕ)
-        → moves (sessionOf (Awaiting e) true held hold x a l b) (feed (client (keptIn l b)) (talkAt (keptIn l b) e) (take held hold ++ piece))
-        (decidedIn (client (keptIn l b)) (talkAt (keptIn l b) e) (take held hold ++ piece) + oneIfWaiting (feed (client (keptIn l b)) (talkAt (keptIn l b) e) (take held hold ++ piece) .session)) out
-        ≡ sending Accepted true t hold′ a l b out
-    moves-as a b out =
-        let k = w .keeps in
-        let c = client (keptIn l b) in
-        let fed = ap (λ (y : List ℕ). feed c (talkAt (keptIn l b) e) (y ++ piece)) (sym q) ∙ w .whole b in
-        let tries = (λ i. (ap (λ (y : List ℕ). decidedIn c (talkAt (keptIn l b) e) (y ++ piece)) (sym q) ∙ w .decides b) i + oneIfWaiting (fed i .session)) ∙ sym (k .tries) in
-        let used : w .place + length (heldBy (w .session)) - length (take held hold) ≡ t .used = rw (← q) (sym (k .uses)) in
-        (λ i. moves (sessionOf (Awaiting e) true held hold x a l b) (fed i) (tries i) out)
-        ∙ (λ i. record {
-          answer = Accepted;
-          session = record { stage = sym (k .staged) i; started = true; held = sym (k .counts) i; hold = sym (k .holds) i; bound = sym (k .bounds) i; attempts = (a + t .attempts) % 2 ^ 64; requests = record { lengths = l; bytes = b } };
-          used = used i;
-          sent = length (part b (t .from) (t .sent));
-          output = part b (t .from) (t .sent) ++ drop (length (part b (t .from) (t .sent))) out;
-        })
+  moves-as : (e : Reply) {t : Taken} {hold′ : List ℕ} → Takes l e (take held hold) piece hold x t hold′
+      → moves (sessionOf (Awaiting e) true held hold x a l b) (feed (client (keptIn l b)) (talkAt (keptIn l b) e) (take held hold ++ piece))
+      (decidedIn (client (keptIn l b)) (talkAt (keptIn l b) e) (take held hold ++ piece) + oneIfWaiting (feed (client (keptIn l b)) (talkAt (keptIn l b) e) (take held hold ++ piece) .session)) out
+      ≡ sending Accepted true t hold′ a l b out
+  moves-as e {t} w =
+      let k = w .keeps in
+      let fed = w .whole b in
+      let tries = (λ i. w .decides b i + oneIfWaiting (fed i .session)) ∙ sym (k .tries) in
+      (λ i. moves (sessionOf (Awaiting e) true held hold x a l b) (fed i) (tries i) out)
+      ∙ (λ i. record {
+        answer = Accepted;
+        session = record { stage = sym (k .staged) i; started = true; held = sym (k .counts) i; hold = sym (k .holds) i; bound = sym (k .bounds) i; attempts = (a + t .attempts) % 2 ^ 64; requests = record { lengths = l; bytes = b } };
+        used = sym (k .uses) i;
+        sent = length (part b (t .from) (t .sent));
+        output = part b (t .from) (t .sent) ++ drop (length (part b (t .from) (t .sent))) out;
+      })
 
-    pub receives-taken : g ≡ true → room e ≤ lent → (length piece ≡ 0 → ⊥) → Receives (Awaiting e) g held l hold piece lent x (record { answer = Accepted; taken = t }) hold′
-    unfolding deliver onward decidedBy
-    receives-taken j h z =
-        let s = w .few in
-        rw j
-        (record {
-          calls = λ a b out i g. rw (g, le-leb (room e) lent h) (takes-more (sessionOf (Awaiting e) true held hold x a l b) piece out z ∙ moves-as a b out);
-          within = w .keeps .within;
-          fits = omega (arith, s, still-room e);
-          inside = w .inside;
-        })
+  goes : (stage : Stage) {r : Received} {hold′ : List ℕ} → Ways stage g held l hold piece (length out) x r hold′ → deliver (sessionOf stage g held hold x a l b) piece out ≡ sending (r .answer) g (r .taken) hold′ a l b out
+  unfolding deliver onward decidedBy
+  goes stage (settled z q w) = rw (q, w, no-more a small, is-over stage x (take held hold) z)
+  goes stage (unstarted e s f q w) = rw (q, w, s, f, no-more a small)
+  goes stage (short e s t h q w) = rw (q, w, s, t, no-more a small, lt-leb (room e) (length out) h)
+  goes stage (none e s t h z q w) = rw (q, w, s, t, no-more a small, le-leb (room e) (length out) h) (takes-none (sessionOf (Awaiting e) true held hold x a l b) piece out z)
+  goes stage (taken e s t h z q w) = rw (q, s, t, le-leb (room e) (length out) h) (takes-more (sessionOf (Awaiting e) true held hold x a l b) piece out z ∙ moves-as e w)
 
 -- ---- a delivery: what is due is sent, and the session built
-
-pub nothing-sent : (b : List ℕ) (from : ℕ) (out : List ℕ) {n : ℕ} → n ≡ 0 → out ≡ overwrite out 0 (part b from n)
-unfolding overwrite
-nothing-sent b from out q = rw q
-
-pub sent-part : (b : List ℕ) (from n : ℕ) (out : List ℕ) {out′ : List ℕ} → out′ ≡ overwrite out 0 (take (from + n - from) (drop from b)) → out′ ≡ overwrite out 0 (part b from n)
-sent-part b from n out w = let z : from + n - from ≡ n = omega arith in w ∙ ap (λ (k : ℕ). overwrite out 0 (take k (drop from b))) z
 
 part-long : (b : List ℕ) (from n : ℕ) → length b ≡ 1024 → from + n ≤ 778 → length (part b from n) ≡ n
 part-long b from n l h = length-take n (drop from b) ∙ rw (length-drop from b) (omega arith)
@@ -152,7 +118,7 @@ module _ (s : Session) (piece out : List ℕ) {r : Received} {hold′ out′ : L
       let t = r .taken in
       let p = part (s .requests .bytes) (t .from) (t .sent) in
       let n : length p ≡ t .sent = part-long (s .requests .bytes) (t .from) (t .sent) long (v .inside) in
-      let c = v .calls (s .attempts) (s .requests .bytes) out small refl in
+      let c = goes (s .started) (s .held) (s .requests .lengths) (s .hold) piece (s .bound) (s .attempts) small (s .requests .bytes) out (s .stage) (v .way) in
       let o : out′ ≡ p ++ drop (length p) out = w ∙ ap (λ (k : ℕ). p ++ drop k out) (zero-add (length p)) in
       record {
         returned = (λ i. record { answer = r .answer; used = t .used; sent = sym n i; session = sessionOf (t .stage) (s .started) (t .held) hold′ (t .bound) (more i) (s .requests .lengths) (s .requests .bytes) }) ∙ ap delivered (sym c);

@@ -19,7 +19,7 @@ use Rattle.bound_text.specs.Text.{boundText}
 use Rattle.bound_text.specs.Written.{writeText, Writes}
 use Rattle.session.specs.declared.Session.{Session}
 use Rattle.session.specs.Session.{bound, isOpen, writeBound}
-use Rattle.session.proofs.Deliveries.{take-least}
+use Rattle.receiving.proofs.Laws.{take-least}
 
 -- by the stage
 unnamed : (stage : Stage) (b : Bound) (h : List ℕ) → isOpen stage ≡ false → unbound ≡ boundIn (viewAt stage b h)

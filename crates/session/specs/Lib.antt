@@ -1,5 +1,4 @@
 pub mod Session
 pub mod Calls
-pub mod Received
 pub mod Hold
 pub mod Ends

@@ -4,3 +4,4 @@ pub mod Accept
 pub mod Pieces
 pub mod Follow
 pub mod Attempts
+pub mod Graft

@@ -1,10 +1,10 @@
 use mathlib.Core.Path.{refl, ap}
 use Rattle.sending.specs.declared.Stage.the-variants.{Failed}
 use Rattle.sending.specs.Stages.{rank}
-use Rattle.session.proofs.Deliveries.{receives-settled}
+use Rattle.receiving.proofs.Laws.{receives-settled}
 use borrow.Author.Needs.{needs}
-use Rattle.session.proofs.receive.Statement.{statement}
-use Rattle.session.proofs.receive.Tie as tie
+use Rattle.receiving.proofs.receive.Statement.{statement}
+use Rattle.receiving.proofs.receive.Tie as tie
 
 enum-known-stage : tie.Need-enum-known-stage
 enum-known-stage c = search needs

@@ -2,10 +2,10 @@ use native.Mathlib.Omega.{arith}
 use mathlib.Core.Path.{_≡_}
 use lib.ListN.{take}
 use borrow.Author.Tests.{not-true, not-false}
-use Rattle.session.proofs.Deliveries.{take-least, receives-unstarted, receives-short, receives-none, receives-taken}
+use Rattle.receiving.proofs.Laws.{take-least, receives-unstarted, receives-short, receives-none, receives-taken}
 use borrow.Author.Needs.{needs}
-use Rattle.session.proofs.receive_awaiting.Statement.{statement}
-use Rattle.session.proofs.receive_awaiting.Tie as tie
+use Rattle.receiving.proofs.receive_awaiting.Statement.{statement}
+use Rattle.receiving.proofs.receive_awaiting.Tie as tie
 
 unchanged-requires : tie.Need-unchanged-requires
 unchanged-requires c κs = search needs

@@ -1,10 +1,10 @@
 use native.Mathlib.Omega.{arith}
 use mathlib.Core.Path.{_≡_}
 use lib.ListN.{length}
-use Rattle.session.proofs.Deliveries.{nothing-sent, sent-part}
+use Rattle.receiving.proofs.Laws.{nothing-sent, sent-part}
 use borrow.Author.Needs.{needs}
-use Rattle.session.proofs.send.Statement.{statement}
-use Rattle.session.proofs.send.Tie as tie
+use Rattle.receiving.proofs.send.Statement.{statement}
+use Rattle.receiving.proofs.send.Tie as tie
 
 bytes-long : (c : tie.Start) → length (c .args .requests .bytes) ≡ 1024
 bytes-long c = search needs
