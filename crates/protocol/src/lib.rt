@@ -70,6 +70,7 @@ pub enum SocksError {
     Settled,
     NotOpen,
     ShortText,
+    RouteLength,
     OutOfOrder,
     AnnouncesName,
 }

@@ -63,10 +63,10 @@ no-more : (a : ℕ) → a < 2 ^ 64 → (a + 0) % 2 ^ 64 ≡ a
 no-more a h = omega arith
 
 -- what a call is on a session of these parts, and after it
-abbrev sessionOf : Stage → Bool → ℕ → List ℕ → Bound → ℕ → Lengths → List ℕ → Session
+abbrev pub sessionOf : Stage → Bool → ℕ → List ℕ → Bound → ℕ → Lengths → List ℕ → Session
 sessionOf s g n hold x a l b = record { stage = s; started = g; held = n; hold = hold; bound = x; attempts = a; requests = record { lengths = l; bytes = b } }
 
-abbrev sending : code.Answer → Bool → Taken → List ℕ → ℕ → Lengths → List ℕ → List ℕ → Call
+abbrev pub sending : code.Answer → Bool → Taken → List ℕ → ℕ → Lengths → List ℕ → List ℕ → Call
 sending r g t hold a l b out =
     record {
       answer = r;
@@ -95,7 +95,7 @@ module _ (g : Bool) (held : ℕ) (l : Lengths) (hold piece : List ℕ) (x : Boun
         output = part b (t .from) (t .sent) ++ drop (length (part b (t .from) (t .sent))) out;
       })
 
-  goes : (stage : Stage) {r : Received} {hold′ : List ℕ} → Ways stage g held l hold piece (length out) x r hold′ → deliver (sessionOf stage g held hold x a l b) piece out ≡ sending (r .answer) g (r .taken) hold′ a l b out
+  pub goes : (stage : Stage) {r : Received} {hold′ : List ℕ} → Ways stage g held l hold piece (length out) x r hold′ → deliver (sessionOf stage g held hold x a l b) piece out ≡ sending (r .answer) g (r .taken) hold′ a l b out
   unfolding deliver onward decidedBy
   goes stage (settled z q w) = rw (q, w, no-more a small, is-over stage x (take held hold) z)
   goes stage (unstarted e s f q w) = rw (q, w, s, f, no-more a small)
@@ -105,7 +105,7 @@ module _ (g : Bool) (held : ℕ) (l : Lengths) (hold piece : List ℕ) (x : Boun
 
 -- ---- a delivery: what is due is sent, and the session built
 
-part-long : (b : List ℕ) (from n : ℕ) → length b ≡ 1024 → from + n ≤ 778 → length (part b from n) ≡ n
+pub part-long : (b : List ℕ) (from n : ℕ) → length b ≡ 1024 → from + n ≤ 778 → length (part b from n) ≡ n
 part-long b from n l h = length-take n (drop from b) ∙ rw (length-drop from b) (omega arith)
 
 module _ (s : Session) (piece out : List ℕ) {r : Received} {hold′ out′ : List ℕ} where

@@ -63,6 +63,10 @@ small AuthenticationRes = omega arith
 small ProxyRes = omega arith
 small Response = omega arith
 
+-- what goes first stands among the bytes kept
+pub first-within : (l : Lengths) (e : Reply) → firstSize l e ≤ 1024
+first-within l e = omega (arith, first-fits l e, small e)
+
 -- what a start sends fits the output lent, and stands among the bytes kept
 module _ (g : Bool) (l : Lengths) (room : ℕ) where
   pub sent-fits : (stage : Stage) → startAt stage g l room .sent ≤ room
@@ -80,7 +84,7 @@ module _ (g : Bool) (l : Lengths) (room : ℕ) where
     where
       go : (h b : Bool) → cond h (refused OutOfOrder g) (cond b (record { answer = Accepted; started = true; sent = firstSize l e }) (refused ShortOutput g)) .sent ≤ 1024
       go true b = zero-le
-      go false true = omega (arith, first-fits l e, small e)
+      go false true = first-within l e
       go false false = zero-le
   sent-within Open = zero-le
   sent-within (Failed x) = zero-le

@@ -39,7 +39,7 @@ fn first_size5(lengths: Lengths) -> usize
     first
 }
 
-fn first_size(lengths: Lengths, reply: Reply) -> usize
+pub fn first_size(lengths: Lengths, reply: Reply) -> usize
     ensures { λ r. ⌜ r ≡ firstSize lengths reply ⌝ }
 {
     match reply {

@@ -113,6 +113,12 @@ enum-told-18 c = search needs
 alone-requires-18 : tie.Need-alone-requires-18
 alone-requires-18 c κs = search needs
 
+enum-told-19 : tie.Need-enum-told-19
+enum-told-19 c = search needs
+
+alone-requires-19 : tie.Need-alone-requires-19
+alone-requires-19 c κs = search needs
+
 returns : tie.Need-returns
 returns c = rw (c .before .enum-told .given .1) (c .alone .ensures)
 
@@ -170,6 +176,9 @@ returns-18 c = rw (c .before .enum-told17 .given .1) (c .alone17 .ensures)
 returns-19 : tie.Need-returns-19
 returns-19 c = rw (c .before .enum-told18 .given .1) (c .alone18 .ensures)
 
+returns-20 : tie.Need-returns-20
+returns-20 c = rw (c .before .enum-told19 .given .1) (c .alone19 .ensures)
+
 pub numbers-of-spec : {M : Type 1} → statement M
 numbers-of-spec =
     tie.close
@@ -211,6 +220,8 @@ numbers-of-spec =
     alone-requires-17
     enum-told-18
     alone-requires-18
+    enum-told-19
+    alone-requires-19
     returns
     returns-2
     returns-3
@@ -229,4 +240,5 @@ numbers-of-spec =
     returns-16
     returns-17
     returns-18
-    returns-19)
+    returns-19
+    returns-20)

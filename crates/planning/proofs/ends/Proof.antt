@@ -1,0 +1,24 @@
+use borrow.Author.Needs.{needs}
+use Rattle.planning.proofs.ends.Statement.{statement}
+use Rattle.planning.proofs.ends.Tie as tie
+use Rattle.planning.proofs.ends.Reads as reads
+use Rattle.planning.proofs.ends.Lts as lts
+
+-- src/lib.rt:154:29
+enum-told : tie.Need-enum-told
+enum-told c = search needs
+
+-- src/lib.rt:155:25
+enum-known-answer : tie.Need-enum-known-answer
+enum-known-answer c = search needs
+
+-- src/lib.rt:150:1
+returns : tie.Need-returns
+returns c = rw (c .enum-told .given .1)
+
+-- src/lib.rt:150:1
+returns-2 : tie.Need-returns-2
+returns-2 c = rw (c .before .answer .given .1)
+
+pub ends-spec : {M : Type 1} → statement M
+ends-spec = tie.close (tie.spec enum-told enum-known-answer returns returns-2)

@@ -1,0 +1,88 @@
+-- A route as a caller gives it, and what preparing its openings comes to.
+use Prim.Native.Nat.{ℕ, _*_}
+use mathlib.Core.Path.{_≡_}
+use mathlib.Core.Bool.{Bool, true}
+use mathlib.Core.List.{List, [], _∷_, _++_, map}
+use lib.ListN.{length, drop}
+use lib.Dec.{leb}
+use Rattle.protocol.specs.declared.Answer as code
+use Rattle.protocol.specs.declared.Answer.the-variants.{Accepted, Refused}
+use Rattle.protocol.specs.declared.Reply.{Reply}
+use Rattle.protocol.specs.declared.Reply.the-variants.{Response}
+use Rattle.protocol.specs.Opening.{Opening, firstReply}
+use Rattle.sending.specs.declared.Stage.{Stage}
+use Rattle.sending.specs.declared.Stage.the-variants.{Awaiting, Open, Failed}
+use Rattle.sending.specs.Parts.{part}
+use Rattle.session.specs.declared.Session.{Session}
+use Rattle.session.specs.declared.Prepared.{Prepared}
+use Rattle.session.specs.Calls.{keptBy, prepare5, prepare4}
+use Rattle.relaying.specs.declared.Hop.{Hop}
+use Rattle.routing.specs.Route as route
+use Rattle.routing.specs.Route.{Asked, over5, over4, openingFor, checkInTurn}
+use Rattle.planning.specs.declared.Proxy.{Proxy}
+use Rattle.planning.specs.declared.Part.{Part}
+use Rattle.planning.specs.declared.Planned.{Planned}
+
+-- ---- the route that is meant: hosts and credentials are parts of the text
+
+abbrev pub partOf : List ℕ → Part → List ℕ
+partOf text p = part text (p .from) (p .len)
+
+abbrev pub proxyOf : List ℕ → Proxy → route.Proxy
+proxyOf text p =
+    record {
+      version = p .version;
+      host = partOf text (p .host);
+      port = p .port;
+      authenticates = p .«proxy_auth»;
+      optimistic = p .optimistic;
+      user = partOf text (p .user);
+      password = partOf text (p .password);
+    }
+
+abbrev pub proxiesOf : List ℕ → List Proxy → List route.Proxy
+proxiesOf text ps = map (proxyOf text) ps
+
+-- ---- preparing
+
+abbrev pub preparedFor : Asked → Prepared
+preparedFor (over5 a) = prepare5 a
+preparedFor (over4 a) = prepare4 a
+
+-- of the first proxy of a row
+abbrev pub IsPrepared : Prepared → List Asked → Type 0
+IsPrepared r [] = ⊥
+IsPrepared r (a ∷ later) = r ≡ preparedFor a
+
+-- ---- what is kept, the last one's first
+
+abbrev pub firstIn : Stage → Reply
+firstIn (Awaiting e) = e
+firstIn Open = Response
+firstIn (Failed x) = Response
+
+abbrev pub keptHop : Session → Hop
+keptHop s = record { first = firstIn (s .stage); lengths = s .requests .lengths }
+
+abbrev pub hopFor : Opening → Hop
+hopFor o = record { first = firstReply o; lengths = keptBy o .lengths }
+
+unfoldable pub hopsFor : List Opening → List Hop
+hopsFor [] = []
+hopsFor (o ∷ os) = hopsFor os ++ (hopFor o ∷ [])
+
+unfoldable pub bytesFor : List Opening → List ℕ
+bytesFor [] = []
+bytesFor (o ∷ os) = bytesFor os ++ keptBy o .bytes
+
+-- ---- as the code has it
+
+abbrev pub endsWith : code.Answer → ℕ → ℕ → Bool
+endsWith Accepted next count = leb count next
+endsWith (Refused e) next count = true
+
+-- what is answered, and if all are accepted what the arrays have at their start; what stood behind it stays
+pub record Plans (asks : List Asked) (hops : List Hop) (bytes : List ℕ) (r : Planned) (bytes′ : List ℕ) : Type 0 where
+  pub answered : r .answer ≡ checkInTurn asks
+  pub hopped : r .answer ≡ Accepted → r .hops ≡ hopsFor (map openingFor asks) ++ drop (length asks) hops
+  pub filled : r .answer ≡ Accepted → bytes′ ≡ bytesFor (map openingFor asks) ++ drop (1024 * length asks) bytes

@@ -1,0 +1,60 @@
+use native.Mathlib.Omega.{arith}
+use mathlib.Core.Path.{refl}
+use Rattle.relaying.specs.Relay.{hopAt}
+use Rattle.relaying.proofs.Laws.{begins, begins-small}
+use borrow.Author.Needs.{needs}
+use Prim.Native.Nat.{_-_}
+use Rattle.relaying.proofs.begin.Statement.{statement}
+use Rattle.relaying.proofs.begin.Tie as tie
+use Rattle.relaying.proofs.begin.Reads as reads
+use Rattle.relaying.proofs.begin.Lts as lts
+use Rattle.relaying.proofs.send.Reads as send-reads
+use Rattle.starting.proofs.first_size.Reads as first-size-reads
+
+-- src/lib.rt:67:17
+sub-index : tie.Need-sub-index
+sub-index c = search needs
+
+-- src/lib.rt:68:15
+mul-hop : tie.Need-mul-hop
+mul-hop c = search needs
+
+-- src/lib.rt:68:15
+array-copy-out-hop : tie.Need-array-copy-out-hop
+array-copy-out-hop c = search needs
+
+-- src/lib.rt:72:9
+first-size-requires : tie.Need-first-size-requires
+first-size-requires c κs = search needs
+
+-- src/lib.rt:73:9
+send-requires : tie.Need-send-requires
+send-requires c κs =
+    let start = c .before .before .before .before .before .before .before .before in
+    let (some, (few, (whole, fits))) = start .pre in
+    let n = hopAt (start .args .t1) (start .args .spot .behind - 1) in
+    let small = begins-small (n .lengths) (n .first) (c .before .first-size .ensures) in
+    (whole, (omega arith, (omega arith, omega arith)))
+
+-- src/lib.rt:62:1
+same-length : tie.Need-same-length
+same-length c = search needs
+
+-- src/lib.rt:62:1
+returns : tie.Need-returns
+returns c =
+    let start = c .before .before .before .before .before .before .before .before .before .before .before in
+    let a = start .args in
+    (refl, begins (a .t1) (a .bytes .now) (a .spot .behind - 1) (c .before .before .before .before .first-size .ensures) (c .before .before .send .ensures))
+
+pub begin-spec : {M : Type 1} → statement M
+begin-spec =
+    tie.close
+    (tie.spec
+    sub-index
+    mul-hop
+    array-copy-out-hop
+    first-size-requires
+    send-requires
+    same-length
+    returns)

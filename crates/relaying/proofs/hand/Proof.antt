@@ -1,0 +1,63 @@
+use Rattle.relaying.proofs.Laws.{sends-inside, hands, hands-few}
+use borrow.Author.Needs.{needs}
+use Rattle.relaying.proofs.hand.Statement.{statement}
+use Rattle.relaying.proofs.hand.Tie as tie
+use Rattle.relaying.proofs.hand.Reads as reads
+use Rattle.relaying.proofs.hand.Lts as lts
+use Rattle.receiving.proofs.receive.Reads as receive-reads
+use Rattle.relaying.proofs.send.Reads as send-reads
+use Rattle.std.proofs.num.wrapping_add_u64.Reads as wrapping-add-u64-reads
+
+-- src/lib.rt:98:15
+mul-hop : tie.Need-mul-hop
+mul-hop c = search needs
+
+-- src/lib.rt:98:15
+array-copy-out-hop : tie.Need-array-copy-out-hop
+array-copy-out-hop c = search needs
+
+-- src/lib.rt:102:9
+receive-requires : tie.Need-receive-requires
+receive-requires c κs = search needs
+
+-- src/lib.rt:106:9
+send-requires : tie.Need-send-requires
+send-requires c κs =
+    let start = c .before .before .before .before .before .before .before .before .before .before .before .before .before .before in
+    let a = start .args in
+    sends-inside (a .t1) (a .spot) (a .bytes .now) (a .hold .now) (a .piece .now) (a .out .now) (start .pre) (c .before .before .before .before .before .receive .ensures)
+
+-- src/lib.rt:113:23
+wrapping-add-u64-requires : tie.Need-wrapping-add-u64-requires
+wrapping-add-u64-requires c κs = search needs
+
+-- src/lib.rt:85:1
+same-length : tie.Need-same-length
+same-length c = search needs
+
+-- src/lib.rt:85:1
+same-length-2 : tie.Need-same-length-2
+same-length-2 c = search needs
+
+-- src/lib.rt:85:1
+returns : tie.Need-returns
+returns c =
+    let start = c .before .before .before .before .before .before .before .before .before .before .before .before .before .before .before .before .before .before in
+    let a = start .args in
+    let v = c .before .before .before .before .before .before .before .before .before .receive .ensures in
+    let w = c .before .before .before .send .ensures in
+    (hands (a .t1) (a .spot) (a .bytes .now) (a .hold .now) (a .piece .now) (a .out .now) (start .pre) v (c .wrapping-add-u64 .ensures) w,
+    hands-few (a .t1) (a .spot) (a .bytes .now) (a .hold .now) (a .piece .now) (a .out .now) (start .pre) v (c .wrapping-add-u64 .ensures) w)
+
+pub hand-spec : {M : Type 1} → statement M
+hand-spec =
+    tie.close
+    (tie.spec
+    mul-hop
+    array-copy-out-hop
+    receive-requires
+    send-requires
+    wrapping-add-u64-requires
+    same-length
+    same-length-2
+    returns)

@@ -1,0 +1,61 @@
+use Rattle.relaying.proofs.Laws.{sent-as}
+use borrow.Author.Needs.{needs}
+use Rattle.relaying.proofs.send.Statement.{statement}
+use Rattle.relaying.proofs.send.Tie as tie
+use Rattle.relaying.proofs.send.Reads as reads
+use Rattle.relaying.proofs.send.Lts as lts
+use Rattle.wire.proofs.copy.Reads as copy-reads
+
+-- src/lib.rt:45:17
+mul-start : tie.Need-mul-start
+mul-start c = search needs
+
+-- src/lib.rt:45:17
+add-start : tie.Need-add-start
+add-start c = search needs
+
+-- src/lib.rt:46:15
+add-end : tie.Need-add-end
+add-end c = search needs
+
+-- src/lib.rt:47:19
+sub-copy : tie.Need-sub-copy
+sub-copy c = search needs
+
+-- src/lib.rt:47:19
+part-copy-start : tie.Need-part-copy-start
+part-copy-start c = search needs
+
+-- src/lib.rt:47:19
+part-copy-end : tie.Need-part-copy-end
+part-copy-end c = search needs
+
+-- src/lib.rt:47:5
+copy-requires : tie.Need-copy-requires
+copy-requires c κs = search needs
+
+-- src/lib.rt:41:1
+same-length : tie.Need-same-length
+same-length c = search needs
+
+-- src/lib.rt:41:1
+returns : tie.Need-returns
+returns c =
+    let start = c .before .before .before .before .before .before .before in
+    let a = start .args in
+    let (whole, (few, (inside, fits))) = start .pre in
+    sent-as (a .bytes .now) whole (a .index) few (a .from) (a .n) inside (c .before .before .copy .ensures)
+
+pub send-spec : {M : Type 1} → statement M
+send-spec =
+    tie.close
+    (tie.spec
+    mul-start
+    add-start
+    add-end
+    sub-copy
+    part-copy-start
+    part-copy-end
+    copy-requires
+    same-length
+    returns)
