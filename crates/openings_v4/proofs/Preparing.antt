@@ -13,8 +13,8 @@ use Rattle.protocol.specs.declared.SocksError.{SocksError}
 use Rattle.protocol.specs.Host.{strip}
 use Rattle.protocol.specs.AddressReading.{destinationOf}
 use Rattle.protocol.specs.Opening.{firstFour, isNone, announces, isAnnouncing, v4, portNumber, opening4}
-use Rattle.addresses.specs.declared.AddressText.{AddressText}
-use Rattle.addresses.specs.Answers.{addressText}
+use Rattle.ipv4_text.specs.declared.AddressText.{AddressText}
+use Rattle.ipv4_text.specs.Answers.{addressText}
 use Rattle.lookup.specs.declared.Lookup.{Lookup}
 use Rattle.lookup.specs.Chosen.{recordsOf}
 use Rattle.checks.specs.Checks.{checkBy4}

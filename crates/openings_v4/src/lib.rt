@@ -8,7 +8,7 @@ ghost use Rattle.protocol.specs.Host.{strip};
 ghost use Rattle.protocol.specs.AddressReading.{destinationOf};
 ghost use Rattle.protocol.specs.Requests.{request};
 ghost use Rattle.protocol.specs.Opening.{v4, firstFour, isNone, isAnnouncing, portNumber};
-ghost use Rattle.addresses.specs.Answers.{addressText};
+ghost use Rattle.ipv4_text.specs.Answers.{addressText};
 ghost use Rattle.lookup.specs.Chosen.{recordsOf};
 ghost use Rattle.checks.specs.Checks.{checkBy4};
 ghost use Rattle.wire.specs.Written.{Wrote};
@@ -17,11 +17,9 @@ ghost use Rattle.openings.specs.Asked.{askedText, target4};
 ghost use Rattle.openings.specs.Begun.{preparedWith};
 ghost use Rattle.openings_v4.specs.Accepted.{Short4};
 ghost use Rattle.protocol.specs.declared.Answer.the-variants as Answer;
-use addresses::AddressText;
-use checks::checks::check4;
-use checks::checks::finds_no_four;
-use checks::lookups::read_host;
-use checks::lookups::wanted4;
+use checks::check4;
+use checks::finds_no_four;
+use ipv4_text::AddressText;
 use lookup::Lookup;
 use lookup::choose;
 use openings::Begun;
@@ -36,6 +34,8 @@ use requests_v4::put_name;
 use sending::Lengths;
 use sending::Stage;
 use session::Prepared;
+use wanted::read_host;
+use wanted::wanted4;
 
 // The Request for what is asked for: an address, or the host's text as a name.
 fn put_request(bytes: &mut [u8], asked: AddressText, text: &[u8], port: u16) -> usize
