@@ -28,8 +28,9 @@ use Rattle.starting.specs.Starting.{firstSize, refused, startAt}
 use Rattle.starting.proofs.Laws.{first-part, sent-fits, sent-within}
 use Rattle.stages.specs.declared.Ending.{Ending}
 use Rattle.stages.specs.Ends.{endAt}
-use Rattle.turns.specs.declared.Taken.{Taken}
-use Rattle.turns.specs.Turns.{keptIn, Takes}
+use Rattle.turns.specs.Turns.{keptIn}
+use Rattle.taking.specs.declared.Taken.{Taken}
+use Rattle.taking.specs.Takes.{Takes}
 use Rattle.session.specs.declared.Session.{Session}
 use Rattle.session.specs.declared.Ended.{Ended}
 use Rattle.session.specs.Session.{sideOf, view}
