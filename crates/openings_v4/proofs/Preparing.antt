@@ -27,7 +27,7 @@ use Rattle.openings.specs.Asked.{askedText, target4By, target4}
 use Rattle.openings.specs.Begun.{preparedWith}
 use Rattle.openings.proofs.Targets.{asked-name, asked-ipv6, asks4}
 use Rattle.openings.proofs.Accepting.{accepted4, prepares-refused}
-use Rattle.openings_v4.specs.Accepted.{Short4}
+use Rattle.keeping_v4.specs.Accepted.{Short4}
 
 -- a name does not announce one, whatever its bytes
 nameless : (t : AddressText) (s : List ℕ) → isAnnouncing (target4 t []) ≡ isAnnouncing (target4 t s)
