@@ -1,5 +1,2 @@
-pub mod Lists
-pub mod Dots
-pub mod Colons
-pub mod Gaps
+pub mod Names
 pub mod Marks

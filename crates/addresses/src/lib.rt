@@ -3,16 +3,12 @@
 ghost use mathlib.Core.Path.{_≡_};
 ghost use mathlib.Core.Bool.{true};
 ghost use Rattle.protocol.specs.AddressReading.{domain, destinationOf};
-ghost use Rattle.addresses.specs.Answers.{addressText};
+ghost use Rattle.ipv4_text.specs.Answers.{addressText};
+use ipv4_text::AddressText;
+use ipv4_text::no_address;
+use ipv4_text::read_ipv4;
+use ipv6_text::read_ipv6;
 use protocol::AddressKind;
-
-mod address;
-
-// A text's kind, and its address bytes: four for Ipv4, sixteen for Ipv6, none for Domain. The others are 0.
-pub struct AddressText {
-    pub kind: AddressKind,
-    pub bytes: [u8; 16],
-}
 
 // Whether none of the first five bytes is `.` or `:`, or any other up to 3A. Of address text one is: no number has more than three
 // digits, and no group more than four.
@@ -30,13 +26,13 @@ pub fn read_address(text: &[u8]) -> AddressText
     ensures { λ r. ⌜ r ≡ addressText (destinationOf (now (text .entry))) ⌝ }
 {
     if lacks_mark(text) {
-        return address::no_address();
+        return no_address();
     }
-    let four = address::read_ipv4(text);
+    let four = read_ipv4(text);
     let kind = four.kind;
     match kind {
         AddressKind::Ipv4 => four,
         AddressKind::Ipv6 => four,
-        AddressKind::Domain => address::read_ipv6(text),
+        AddressKind::Domain => read_ipv6(text),
     }
 }

@@ -11,9 +11,9 @@ use borrow.Author.Tests.{ltb-true}
 use Rattle.protocol.specs.Bytes.{Bytes}
 use Rattle.protocol.specs.AddressText as G
 use Rattle.protocol.specs.AddressText.{Ipv6}
-use Rattle.bound_text.specs.Text.{splitBy, groupsOf, run, longest, shortenedBy, groupsText}
-use Rattle.bound_text.specs.Shortened.{Zeros}
-use Rattle.bound_text.proofs.Runs.{longest-zeros}
+use Rattle.groups_text.specs.Groups.{splitBy, groupsOf, run, longest, shortenedBy, groupsText}
+use Rattle.groups_text.specs.Shortened.{Zeros}
+use Rattle.groups_text.proofs.Runs.{longest-zeros}
 use Rattle.bound_text.proofs.Rows.{Each, bytesOf, tail-row, left-row, right-row, bytes-append, bytes-length, bytes-zeros}
 
 -- ---- the groups of an address

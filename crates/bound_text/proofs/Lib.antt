@@ -1,10 +1,7 @@
-pub mod Runs
 pub mod Digits
 pub mod Colons
 pub mod Rows
 pub mod Groups
 pub mod ReadBack
 pub mod Examples
-mod Scan
-mod Puts
 mod Texts

@@ -12,7 +12,8 @@ use Rattle.protocol.specs.AddressText.{Number, Dotted, Ipv4}
 use Rattle.protocol.specs.AddressReading.{Destination, ipv4, ipv6, domain, destinationOf}
 use Rattle.protocol.proofs.Destinations.{ipv4-just, ipv6-just}
 use Rattle.protocol.proofs.Hosts.{strip-brackets, strip-else}
-use Rattle.bound_text.specs.Text.{splitBy, groupsOf, groupsText, hostText, textOf}
+use Rattle.groups_text.specs.Groups.{splitBy, groupsOf, groupsText}
+use Rattle.bound_text.specs.Text.{hostText, textOf}
 use Rattle.bound_text.specs.ReadBack.{IsAddress, LastColon, ReadBack, Told}
 use Rattle.bound_text.proofs.Digits.{digits-told, digits-free}
 use Rattle.bound_text.proofs.Colons.{one-split}

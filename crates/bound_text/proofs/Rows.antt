@@ -8,7 +8,7 @@ use Rattle.numerals.specs.Digits.{digitsOf}
 use Rattle.protocol.specs.Bytes.{Bytes, two}
 use Rattle.protocol.specs.AddressText as G
 use Rattle.protocol.specs.AddressText.{Dotted, Groups, Tail, Left, Right}
-use Rattle.bound_text.specs.Text.{behindMark, splitBy}
+use Rattle.groups_text.specs.Groups.{behindMark, splitBy}
 use Rattle.bound_text.proofs.Digits.{number-of, group-of}
 
 -- each number is at most so much

@@ -1,12 +1,12 @@
 -- The parts of a text put one behind the other, and the text in the caller's buffer.
-use Prim.Native.Nat.{ℕ, _+_, _-_, _≤_, _<_}
+use Prim.Native.Nat.{ℕ, _+_, _≤_, _<_}
 use native.Mathlib.Omega.{arith}
 use native.Mathlib.Nat.{zero-add}
 use mathlib.Core.Path.{_≡_, refl, sym, ap, _∙_}
 use mathlib.Core.List.{List, [], _∷_, _++_, append-assoc}
 use lib.ListN.{length, getD, take, drop, length-append, length-take}
 use lib.Seq.{take-at, drop-at, length-take-le}
-use borrow.Author.Tests.{lt-ltb, le-ltb, le-leb, lt-leb}
+use borrow.Author.Tests.{le-leb, lt-leb}
 use Rattle.numerals.specs.Digits.{digitsOf}
 use Rattle.numerals.specs.Added.{Adds}
 use Rattle.numerals.proofs.Laws.{then}
@@ -21,8 +21,8 @@ use Rattle.protocol.specs.Host.{bracketed}
 use Rattle.protocol.specs.Requests.{kindOf}
 use Rattle.wire.specs.Written.{Wrote, overwrite}
 use Rattle.wire.proofs.Laws.{wrote-length}
-use Rattle.wire.proofs.Parts.{part-from}
-use Rattle.bound_text.specs.Text.{splitBy, groupsOf, longest, groupsText, hostText, textOf, boundText}
+use Rattle.groups_text.specs.Groups.{splitBy, groupsOf, groupsText}
+use Rattle.bound_text.specs.Text.{hostText, textOf, boundText}
 use Rattle.bound_text.specs.Written.{writeText, Writes}
 
 -- ---- an address
@@ -34,21 +34,6 @@ four (v ∷ w ∷ []) h e f g i = absurd (omega arith)
 four (v ∷ w ∷ x ∷ []) h e f g i = absurd (omega arith)
 four (v ∷ w ∷ x ∷ y ∷ []) h e f g i = rw (e, f, g, i)
 four (v ∷ w ∷ x ∷ y ∷ z ∷ s) h e f g i = absurd (omega arith)
-
--- two rows of groups and what stands between them
-pub rows : {o o₁ o₂ o₃ : List ℕ} {at a b c : ℕ} (gs : List ℕ) (start behind : ℕ) → Adds o at (splitBy 16 0x3A (take start gs)) a o₁ → Adds o₁ a (0x3A ∷ 0x3A ∷ []) b o₂
-    → Adds o₂ b (splitBy 16 0x3A (take (length gs - behind) (drop behind gs))) c o₃
-    → Adds o at (splitBy 16 0x3A (take start gs) ++ (0x3A ∷ 0x3A ∷ splitBy 16 0x3A (drop behind gs))) c o₃
-rows gs start behind u v w = then u (then v (rw (part-from gs behind) at w))
-
-module _ (gs : List ℕ) (n : ℕ) (e : n ≡ longest gs .count) where
-  pub not-shortened : n ≤ 1 → groupsText gs ≡ splitBy 16 0x3A gs
-  unfolding groupsText
-  not-shortened h = rw (← e, le-ltb 1 n h)
-
-  pub shortened : (s : ℕ) → s ≡ longest gs .start → 1 < n → groupsText gs ≡ splitBy 16 0x3A (take s gs) ++ (0x3A ∷ 0x3A ∷ splitBy 16 0x3A (drop (s + n) gs))
-  unfolding groupsText
-  shortened s f h = rw (← e, ← f, lt-ltb 1 n h)
 
 pub brackets : {o o₁ o₂ o₃ : List ℕ} {at a b c : ℕ} (s gs : List ℕ) → gs ≡ groupsOf s → Adds o at (0x5B ∷ []) a o₁ → Adds o₁ a (groupsText gs) b o₂
     → Adds o₂ b (0x5D ∷ []) c o₃ → Adds o at (bracketed (groupsText (groupsOf s))) c o₃

@@ -18,18 +18,10 @@ use Rattle.protocol.specs.Host.{strip}
 use Rattle.protocol.specs.AddressReading.{Destination, ipv4, ipv6, domain, destinationOf}
 use Rattle.protocol.specs.Requests.{kindOf}
 use Rattle.protocol.specs.Opening.{refuse, isEmpty, isName, isIpv6, isNone, isAnnouncing, firstRecord, firstFour, asked4, check5, check4}
-use Rattle.addresses.specs.declared.AddressText.{AddressText}
-use Rattle.addresses.specs.Answers.{addressText}
+use Rattle.ipv4_text.specs.declared.AddressText.{AddressText}
+use Rattle.ipv4_text.specs.Answers.{addressText}
+use Rattle.wanted.proofs.Laws.{read-name}
 use Rattle.checks.specs.Checks.{checkShared, checkName, checkBy5, checkBy4}
-
-name-kind : (d : Destination) → isName (kindOf (addressText d .kind) []) ≡ isName d
-name-kind (ipv4 bs) = refl
-name-kind (ipv6 bs) = refl
-name-kind (domain s) = refl
-
--- what was read of a host says whether it is a name
-pub read-name : (host : List ℕ) (read : AddressText) → read ≡ addressText (destinationOf (strip host)) → isName (kindOf (read .kind) []) ≡ isName (destinationOf (strip host))
-read-name host read e = ap (λ (t : AddressText). isName (kindOf (t .kind) [])) e ∙ name-kind (destinationOf (strip host))
 
 ipv6-kind : (d : Destination) → isIpv6 (kindOf (addressText d .kind) []) ≡ isIpv6 d
 ipv6-kind (ipv4 bs) = refl

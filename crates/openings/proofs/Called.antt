@@ -26,12 +26,12 @@ use Rattle.protocol.specs.declared.Record.{Record}
 use Rattle.protocol.specs.Host.{strip}
 use Rattle.protocol.specs.AddressReading.{destinationOf}
 use Rattle.protocol.proofs.Record as T
-use Rattle.addresses.specs.declared.AddressText.{AddressText}
-use Rattle.addresses.specs.Answers.{addressText}
+use Rattle.ipv4_text.specs.declared.AddressText.{AddressText}
+use Rattle.ipv4_text.specs.Answers.{addressText}
 use Rattle.lookup.specs.declared.Lookup.{Lookup}
 use Rattle.lookup.specs.Chosen.{noneFound, chosenOf}
 use Rattle.lookup.proofs.choose as choose
-use Rattle.checks.proofs.lookups.read_host as reading
+use Rattle.wanted.proofs.read_host as reading
 
 abbrev pub Reads : List ℕ → AddressText → Type 0
 Reads host d = d ≡ addressText (destinationOf (strip host))

@@ -20,7 +20,7 @@ use Rattle.protocol.specs.Opening.{V5, V4, firstRecord, firstFour, refuse, isEm
 use Rattle.lookup.specs.declared.Lookup.{Lookup}
 use Rattle.lookup.specs.Chosen.{noneFound, chosenOf, recordsOf}
 use Rattle.lookup.proofs.Firsts.{first-chosen, four-chosen}
-use Rattle.checks.specs.Lookups.{looksUp}
+use Rattle.wanted.specs.Lookups.{looksUp}
 use Rattle.session.specs.declared.Prepared.{Prepared}
 use Rattle.session.specs.Calls.{preparedBy, prepare5, prepare4}
 

@@ -15,8 +15,8 @@ use Rattle.protocol.specs.AddressReading.{Destination, ipv4, ipv6, domain, dest
 use Rattle.protocol.specs.Requests.{kindOf, address, name}
 use Rattle.protocol.specs.Opening.{isName, isIpv6, isNone, firstFour, recordFamily, asked5, asked4}
 use Rattle.protocol.proofs.Destinations.{domain-is, ipv4-length}
-use Rattle.addresses.specs.declared.AddressText.{AddressText}
-use Rattle.addresses.specs.Answers.{addressText}
+use Rattle.ipv4_text.specs.declared.AddressText.{AddressText}
+use Rattle.ipv4_text.specs.Answers.{addressText}
 use Rattle.lookup.specs.declared.Lookup.{Lookup}
 use Rattle.lookup.specs.Chosen.{recordsOf}
 use Rattle.openings.specs.Asked.{recordKind, askedText, targetBy, target5, target4}

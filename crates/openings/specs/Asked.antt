@@ -11,7 +11,7 @@ use Rattle.protocol.specs.declared.Record.{Record}
 use Rattle.protocol.specs.AddressReading.{Destination, ipv4, ipv6, domain}
 use Rattle.protocol.specs.Requests.{kindOf, Destination4, address, name}
 use Rattle.protocol.specs.Opening.{isName}
-use Rattle.addresses.specs.declared.AddressText.{AddressText}
+use Rattle.ipv4_text.specs.declared.AddressText.{AddressText}
 
 abbrev pub recordKind : Family → AddressKind
 recordKind Four = Ipv4

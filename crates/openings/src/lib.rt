@@ -7,7 +7,7 @@ ghost use Rattle.openings.specs.Asked.{recordText, askedText};
 ghost use Rattle.openings.specs.Begun.{preparedWith};
 ghost use Rattle.protocol.specs.declared.Answer.the-variants as Answer;
 ghost use Rattle.sending.specs.declared.Stage.the-variants as Stage;
-use addresses::AddressText;
+use ipv4_text::AddressText;
 use protocol::AddressKind;
 use protocol::Answer;
 use protocol::Bound;
@@ -49,7 +49,7 @@ pub fn asked(read: AddressText, found: bool, first: Record) -> AddressText
     ensures { λ r. ⌜ r ≡ askedText read found first ⌝ }
 {
     let kind = read.kind;
-    if both(checks::checks::is_name(kind), found) {
+    if both(wanted::is_name(kind), found) {
         return recorded(first);
     }
     read

@@ -13,8 +13,8 @@ use Rattle.protocol.specs.declared.SocksError.{SocksError}
 use Rattle.protocol.specs.Host.{strip}
 use Rattle.protocol.specs.AddressReading.{destinationOf}
 use Rattle.protocol.specs.Opening.{firstFour, isNone, announces, isAnnouncing, v4, portNumber, opening4}
-use Rattle.addresses.specs.declared.AddressText.{AddressText}
-use Rattle.addresses.specs.Answers.{addressText}
+use Rattle.ipv4_text.specs.declared.AddressText.{AddressText}
+use Rattle.ipv4_text.specs.Answers.{addressText}
 use Rattle.lookup.specs.declared.Lookup.{Lookup}
 use Rattle.lookup.specs.Chosen.{recordsOf}
 use Rattle.checks.specs.Checks.{checkBy4}
@@ -27,7 +27,7 @@ use Rattle.openings.specs.Asked.{askedText, target4By, target4}
 use Rattle.openings.specs.Begun.{preparedWith}
 use Rattle.openings.proofs.Targets.{asked-name, asked-ipv6, asks4}
 use Rattle.openings.proofs.Accepting.{accepted4, prepares-refused}
-use Rattle.openings_v4.specs.Accepted.{Short4}
+use Rattle.keeping_v4.specs.Accepted.{Short4}
 
 -- a name does not announce one, whatever its bytes
 nameless : (t : AddressText) (s : List ℕ) → isAnnouncing (target4 t []) ≡ isAnnouncing (target4 t s)

@@ -2,26 +2,20 @@
 ghost use mathlib.Core.Path.{_≡_};
 ghost use mathlib.Core.Bool.{_&&_, not};
 ghost use mathlib.Core.List.{[]};
-ghost use Prim.Native.Nat.{_≤_};
-ghost use lib.ListN.{length, replicate};
+ghost use lib.ListN.{replicate};
 ghost use Rattle.protocol.specs.Host.{strip};
 ghost use Rattle.protocol.specs.AddressReading.{destinationOf};
-ghost use Rattle.protocol.specs.Requests.{request};
 ghost use Rattle.protocol.specs.Opening.{v4, firstFour, isNone, isAnnouncing, portNumber};
-ghost use Rattle.addresses.specs.Answers.{addressText};
+ghost use Rattle.ipv4_text.specs.Answers.{addressText};
 ghost use Rattle.lookup.specs.Chosen.{recordsOf};
 ghost use Rattle.checks.specs.Checks.{checkBy4};
-ghost use Rattle.wire.specs.Written.{Wrote};
 ghost use Rattle.session.specs.Calls.{preparedBy, prepare4};
 ghost use Rattle.openings.specs.Asked.{askedText, target4};
 ghost use Rattle.openings.specs.Begun.{preparedWith};
-ghost use Rattle.openings_v4.specs.Accepted.{Short4};
-ghost use Rattle.protocol.specs.declared.Answer.the-variants as Answer;
-use addresses::AddressText;
-use checks::checks::check4;
-use checks::checks::finds_no_four;
-use checks::lookups::read_host;
-use checks::lookups::wanted4;
+use checks::check4;
+use checks::finds_no_four;
+use ipv4_text::AddressText;
+use keeping_v4::accept;
 use lookup::Lookup;
 use lookup::choose;
 use openings::Begun;
@@ -29,45 +23,10 @@ use protocol::AddressKind;
 use protocol::Answer;
 use protocol::Port;
 use protocol::Record;
-use protocol::Reply;
 use requests_v4::announces_name;
-use requests_v4::put_address;
-use requests_v4::put_name;
-use sending::Lengths;
-use sending::Stage;
 use session::Prepared;
-
-// The Request for what is asked for: an address, or the host's text as a name.
-fn put_request(bytes: &mut [u8], asked: AddressText, text: &[u8], port: u16) -> usize
-    requires { ⌜ (1024 ≤ length (now bytes)) × Short4 (asked .kind) (now text) ⌝ }
-    ensures { λ r. ⌜ Wrote (now (bytes .entry)) 0 (request (target4 asked (now (text .entry))) port) r (now (bytes .exit)) ⌝ }
-{
-    let kind = asked.kind;
-    let ip = asked.bytes;
-    match kind {
-        AddressKind::Ipv4 => put_address(bytes, 0, &ip[..4], port),
-        AddressKind::Ipv6 => 0,
-        AddressKind::Domain => put_name(bytes, 0, text, port),
-    }
-}
-
-// An accepted opening keeps its request.
-fn accept(bytes: &mut [u8], text: &[u8], asked: AddressText, port: Port) -> Begun
-    requires { ⌜ (now bytes ≡ replicate 1024 0) × Short4 (asked .kind) (now text) ⌝ }
-    ensures { λ r. ⌜ preparedWith r (now (bytes .exit)) ≡ preparedBy Answer.Accepted (v4 (target4 asked (now (text .entry))) (portNumber port)) ⌝ }
-{
-    let n = put_request(bytes, asked, text, openings::port_number(port));
-    Begun {
-        answer: Answer::Accepted,
-        stage: Stage::Awaiting(Reply::Response),
-        lengths: Lengths {
-            optimistic: false,
-            first: n,
-            authentication: 0,
-            proxy: 0,
-        },
-    }
-}
+use wanted::read_host;
+use wanted::wanted4;
 
 // Whether a name is to be looked up, and a record of family four was found.
 fn finds_four(local_dns: bool, chosen: Lookup) -> bool

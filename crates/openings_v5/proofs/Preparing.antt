@@ -12,8 +12,8 @@ use Rattle.protocol.specs.declared.SocksError.{SocksError}
 use Rattle.protocol.specs.Host.{strip}
 use Rattle.protocol.specs.AddressReading.{Destination, destinationOf}
 use Rattle.protocol.specs.Opening.{Opening, v5, credentialsIf, portNumber, opening5}
-use Rattle.addresses.specs.declared.AddressText.{AddressText}
-use Rattle.addresses.specs.Answers.{addressText}
+use Rattle.ipv4_text.specs.declared.AddressText.{AddressText}
+use Rattle.ipv4_text.specs.Answers.{addressText}
 use Rattle.lookup.specs.declared.Lookup.{Lookup}
 use Rattle.lookup.specs.Chosen.{recordsOf}
 use Rattle.checks.specs.Checks.{checkBy5}
@@ -26,7 +26,7 @@ use Rattle.openings.specs.Asked.{askedText, target5}
 use Rattle.openings.specs.Begun.{preparedWith}
 use Rattle.openings.proofs.Targets.{asked-name, asks5}
 use Rattle.openings.proofs.Accepting.{accepted5, prepares-refused}
-use Rattle.openings_v5.specs.Accepted.{Short5}
+use Rattle.keeping_v5.specs.Accepted.{Short5}
 
 module _ (config : SocksConfig) (host : List ℕ) (read : AddressText) (port : Port) (user password : List ℕ) (chosen : Lookup) where
   abbrev answer : List ℕ → Answer

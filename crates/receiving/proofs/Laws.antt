@@ -20,8 +20,8 @@ use Rattle.sending.specs.declared.Stage.the-variants.{Awaiting}
 use Rattle.sending.specs.Stages.{rank}
 use Rattle.sending.specs.Parts.{part}
 use Rattle.sending.specs.Due.{stillDue}
-use Rattle.turns.specs.declared.Taken.{Taken}
-use Rattle.turns.specs.Turns.{Takes}
+use Rattle.taking.specs.declared.Taken.{Taken}
+use Rattle.taking.specs.Takes.{Takes}
 use Rattle.receiving.specs.declared.Received.{Received}
 use Rattle.receiving.specs.Received.{unchanged, settled, unstarted, short, none, taken, Receives}
 

@@ -14,7 +14,7 @@ use Rattle.sending.specs.declared.Lengths.{Lengths}
 use Rattle.sending.specs.declared.Stage.{Stage}
 use Rattle.sending.specs.declared.Stage.the-variants.{Awaiting}
 use Rattle.sending.specs.Stages.{rank}
-use Rattle.turns.specs.Turns.{Takes}
+use Rattle.taking.specs.Takes.{Takes}
 use Rattle.receiving.specs.declared.Received.{Received}
 
 abbrev pub unchanged : Answer → Stage → ℕ → Bound → Received

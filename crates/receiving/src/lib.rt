@@ -14,7 +14,7 @@ use protocol::SocksError;
 use sending::Lengths;
 use sending::Requests;
 use sending::Stage;
-use turns::Taken;
+use taking::Taken;
 use wire::copy;
 use wire::least;
 
@@ -80,7 +80,7 @@ fn receive_awaiting(
     }
     Received {
         answer: Answer::Accepted,
-        taken: turns::take(lengths, reply, hold, least(held, 261), piece, bound),
+        taken: taking::take(lengths, reply, hold, least(held, 261), piece, bound),
     }
 }
 

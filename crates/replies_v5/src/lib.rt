@@ -1,17 +1,14 @@
 // SOCKS5 (RFC 1928, RFC 1929): readers for NegotiationRes, AuthenticationRes and ProxyRes.
 ghost use mathlib.Core.Path.{_≡_};
-ghost use mathlib.Core.Bool.{cond, not, _||_};
+ghost use mathlib.Core.Bool.{not, _||_};
 ghost use mathlib.Core.List.{_++_};
 ghost use Prim.Native.Nat.{_+_, _-_, _≤_};
 ghost use lib.ListN.{length, take, drop};
 ghost use lib.Dec.{eqb};
-ghost use Rattle.protocol.specs.Requests.{methodByte};
-ghost use Rattle.protocol.specs.Replies.{negotiationVerdict, authenticationVerdict, headAllowed, typeAllowed, proxySize, proxyVerdict, wholeAt, typeAt, decide};
+ghost use Rattle.protocol.specs.Replies.{proxySize, proxyVerdict, wholeAt, typeAt, decide};
 ghost use Rattle.protocol.specs.Bytes.{byte};
 ghost use Rattle.protocol.specs.Utf8.{isUtf8};
 ghost use Rattle.protocol.specs.declared.Reply.the-variants as Reply;
-ghost use Rattle.protocol.specs.declared.Verdict.the-variants as Verdict;
-ghost use Rattle.protocol.specs.declared.SocksError.the-variants as SocksError;
 use protocol::AuthMethod;
 use protocol::Decision;
 use protocol::SocksError;
@@ -19,38 +16,13 @@ use protocol::Verdict;
 use reader::bytes_at;
 use reader::three_at;
 use reader::two_at;
+use verdicts_v5::authentication_verdict;
+use verdicts_v5::head_allowed;
+use verdicts_v5::negotiation_verdict;
+use verdicts_v5::rest_size;
+use verdicts_v5::type_allowed;
 use wire::least;
-use wire::method_byte;
 use wire::wide;
-
-// A method that this client knows, held against the one sent.
-fn method_verdict(sent: AuthMethod, method: u8) -> Verdict
-    ensures { λ r. ⌜ r ≡ cond (eqb method (methodByte sent)) Verdict.Good (Verdict.Bad SocksError.MethodMismatch) ⌝ }
-{
-    if method == method_byte(sent) {
-        return Verdict::Good;
-    }
-    Verdict::Bad(SocksError::MethodMismatch)
-}
-
-// How a NegotiationRes is judged, by its version and method.
-fn negotiation_verdict(sent: AuthMethod, ver: u8, method: u8) -> Verdict
-    ensures { λ r. ⌜ r ≡ negotiationVerdict sent ver method ⌝ }
-{
-    if ver != 0x05 {
-        return Verdict::Bad(SocksError::Parsing);
-    }
-    if method == 0xFF {
-        return Verdict::Bad(SocksError::Unsupported);
-    }
-    if method == 0x00 {
-        return method_verdict(sent, method);
-    }
-    if method == 0x02 {
-        return method_verdict(sent, method);
-    }
-    Verdict::Bad(SocksError::Parsing)
-}
 
 // NegotiationRes: the version and the method chosen, in answer to the method sent.
 pub fn read_negotiation_res(held: &[u8], piece: &[u8], sent: AuthMethod) -> Decision
@@ -63,18 +35,6 @@ pub fn read_negotiation_res(held: &[u8], piece: &[u8], sent: AuthMethod) -> Deci
     Decision::Undecided
 }
 
-fn authentication_verdict(ver: u8, status: u8) -> Verdict
-    ensures { λ r. ⌜ r ≡ authenticationVerdict ver status ⌝ }
-{
-    if ver != 0x01 {
-        return Verdict::Bad(SocksError::Parsing);
-    }
-    if status != 0x00 {
-        return Verdict::Bad(SocksError::Failed);
-    }
-    Verdict::Good
-}
-
 // AuthenticationRes: the version and a status.
 pub fn read_authentication_res(held: &[u8], piece: &[u8]) -> Decision
     ensures { λ r. ⌜ r ≡ decide Reply.AuthenticationRes (now (held .entry) ++ now (piece .entry)) ⌝ }
@@ -84,48 +44,6 @@ pub fn read_authentication_res(held: &[u8], piece: &[u8]) -> Decision
         return Decision::Decided(p.at, authentication_verdict(p.first, p.second));
     }
     Decision::Undecided
-}
-
-// Whether the first three bytes of a ProxyRes may stand.
-fn head_allowed(ver: u8, rep: u8, rsv: u8) -> bool
-    ensures { λ r. ⌜ r ≡ headAllowed ver rep rsv ⌝ }
-{
-    if ver != 0x05 {
-        return false;
-    }
-    if 0x08 < rep {
-        return false;
-    }
-    rsv == 0x00
-}
-
-// Whether the address type may stand, with the byte after it.
-fn type_allowed(atyp: u8, len: u8) -> bool
-    ensures { λ r. ⌜ r ≡ typeAllowed atyp len ⌝ }
-{
-    if atyp == 0x01 {
-        return true;
-    }
-    if atyp == 0x04 {
-        return true;
-    }
-    if atyp != 0x03 {
-        return false;
-    }
-    0 < len
-}
-
-// How many bytes of a ProxyRes stand behind its first five.
-fn rest_size(atyp: u8, len: u8) -> usize
-    ensures { λ r. ⌜ (5 + r ≡ proxySize atyp len) × (r ≤ 257) ⌝ }
-{
-    if atyp == 0x01 {
-        return 5;
-    }
-    if atyp == 0x04 {
-        return 17;
-    }
-    2 + wide(len)
 }
 
 // Whether the bytes from a place to another are UTF-8.

@@ -1,148 +1,18 @@
-// The text that is written. Each `put_` function puts its bytes from a place on, and answers the place behind them.
-ghost use mathlib.Core.Path.{_≡_};
+// The text that is written, by its fields. Each `put_` function puts its bytes from a place on, and answers the place behind them.
 ghost use Prim.Native.Nat.{_+_, _*_, _≤_};
 ghost use lib.ListN.{length};
 ghost use Rattle.numerals.specs.Added.{Adds};
-ghost use Rattle.numerals.specs.Digits.{decimalOf};
-ghost use Rattle.protocol.specs.Numbers.{answerNumber};
-ghost use Rattle.report.specs.Text.{fieldOf, numberText, outcomeText, statusOf, stateText, sentText, resultsText, moreText, numbersText, endText, answersText, boundText, attemptsText, asked, closeText, noticeText};
+ghost use Rattle.report.specs.Text.{resultsText, answersText, boundText, attemptsText, asked, closeText, noticeText};
 use numerals::put_decimal;
-use numerals::put_hex;
-use protocol::Answer;
 use protocol::Outcome;
-
-pub fn put_bytes(s: &[u8], text: &mut [u8], at: usize) -> usize
-    requires { ⌜ at + length (now s) ≤ length (now text) ⌝ }
-    ensures { λ r. ⌜ r ≡ at + length (now (s .entry)) ⌝ }
-    ensures { λ r. ⌜ Adds (now (text .entry)) at (now (s .entry)) r (now (text .exit)) ⌝ }
-{
-    let mut i = 0;
-    let mut end = at;
-    while i < s.len() {
-        text[end] = s[i];
-        end += 1;
-        i += 1;
-    }
-    end
-}
-
-// Bytes in hexadecimal, or `-` if there are none.
-fn put_field(s: &[u8], text: &mut [u8], at: usize) -> usize
-    requires { ⌜ at + 2 * length (now s) + 1 ≤ length (now text) ⌝ }
-    ensures { λ r. ⌜ r ≤ at + 2 * length (now (s .entry)) + 1 ⌝ }
-    ensures { λ r. ⌜ Adds (now (text .entry)) at (fieldOf (now (s .entry))) r (now (text .exit)) ⌝ }
-{
-    if s.len() == 0 {
-        text[at] = b'-';
-        return at + 1;
-    }
-    put_hex(s, text, at)
-}
-
-// The number of a call or a failure, which three digits hold.
-fn put_code(n: u8, text: &mut [u8], at: usize) -> usize
-    requires { ⌜ at + 20 ≤ length (now text) ⌝ }
-    ensures { λ r. ⌜ r ≤ at + 3 ⌝ }
-    ensures { λ r. ⌜ Adds (now (text .entry)) at (decimalOf n) r (now (text .exit)) ⌝ }
-{
-    put_decimal(n as u64, text, at)
-}
-
-// A number and a space.
-fn put_number(n: u64, text: &mut [u8], at: usize) -> usize
-    requires { ⌜ at + 21 ≤ length (now text) ⌝ }
-    ensures { λ r. ⌜ r ≤ at + 21 ⌝ }
-    ensures { λ r. ⌜ Adds (now (text .entry)) at (numberText n) r (now (text .exit)) ⌝ }
-{
-    let end = put_decimal(n, text, at);
-    text[end] = b' ';
-    end + 1
-}
-
-pub fn answer_number(answer: Answer) -> u8
-    ensures { λ r. ⌜ r ≡ answerNumber answer ⌝ }
-{
-    match answer {
-        Answer::Accepted => 0,
-        Answer::Refused(error) => error_numbers::number(error),
-    }
-}
-
-// `waiting`, or 0 for open, or the number of a failure.
-fn put_outcome(outcome: Outcome, text: &mut [u8], at: usize) -> usize
-    requires { ⌜ at + 20 ≤ length (now text) ⌝ }
-    ensures { λ r. ⌜ r ≤ at + 20 ⌝ }
-    ensures { λ r. ⌜ Adds (now (text .entry)) at (outcomeText outcome) r (now (text .exit)) ⌝ }
-{
-    match outcome {
-        Outcome::Waiting => put_bytes(b"waiting", text, at),
-        Outcome::Open => put_bytes(b"0", text, at),
-        Outcome::Failed(error) => put_code(error_numbers::number(error), text, at),
-    }
-}
-
-fn status_of(outcome: Outcome) -> u8
-    ensures { λ r. ⌜ r ≡ statusOf outcome ⌝ }
-{
-    match outcome {
-        Outcome::Waiting => 0,
-        Outcome::Open => 0,
-        Outcome::Failed(error) => error_numbers::status(error),
-    }
-}
-
-// An outcome, its status, and a space behind each.
-fn put_state(outcome: Outcome, text: &mut [u8], at: usize) -> usize
-    requires { ⌜ at + 42 ≤ length (now text) ⌝ }
-    ensures { λ r. ⌜ r ≤ at + 42 ⌝ }
-    ensures { λ r. ⌜ Adds (now (text .entry)) at (stateText outcome) r (now (text .exit)) ⌝ }
-{
-    let end = put_outcome(outcome, text, at);
-    text[end] = b' ';
-    put_number(status_of(outcome) as u64, text, end + 1)
-}
-
-// Numbers with a comma before each.
-fn put_more(numbers: &[u8], text: &mut [u8], at: usize) -> usize
-    requires { ⌜ at + 4 * length (now numbers) + 20 ≤ length (now text) ⌝ }
-    ensures { λ r. ⌜ r ≤ at + 4 * length (now (numbers .entry)) ⌝ }
-    ensures { λ r. ⌜ Adds (now (text .entry)) at (moreText (now (numbers .entry))) r (now (text .exit)) ⌝ }
-{
-    let mut i = 0;
-    let mut end = at;
-    while i < numbers.len() {
-        text[end] = b',';
-        end = put_code(numbers[i], text, end + 1);
-        i += 1;
-    }
-    end
-}
-
-// Numbers split by commas, or `-` if there are none.
-fn put_numbers(numbers: &[u8], text: &mut [u8], at: usize) -> usize
-    requires { ⌜ at + 4 * length (now numbers) + 20 ≤ length (now text) ⌝ }
-    ensures { λ r. ⌜ r ≤ at + 4 * length (now (numbers .entry)) + 1 ⌝ }
-    ensures { λ r. ⌜ Adds (now (text .entry)) at (numbersText (now (numbers .entry))) r (now (text .exit)) ⌝ }
-{
-    if numbers.len() == 0 {
-        text[at] = b'-';
-        return at + 1;
-    }
-    let end = put_code(numbers[0], text, at);
-    put_more(&numbers[1..], text, end)
-}
-
-// A field of bytes between spaces.
-fn put_sent(sent: &[u8], text: &mut [u8], at: usize) -> usize
-    requires { ⌜ at + 2 * length (now sent) + 3 ≤ length (now text) ⌝ }
-    ensures { λ r. ⌜ r ≤ at + 2 * length (now (sent .entry)) + 3 ⌝ }
-    ensures { λ r. ⌜ Adds (now (text .entry)) at (sentText (now (sent .entry))) r (now (text .exit)) ⌝ }
-{
-    text[at] = b' ';
-    let end = put_field(sent, text, at + 1);
-    text[end] = b' ';
-    end + 1
-}
+pub use report_fields::answer_number;
+pub use report_fields::put_bytes;
+use report_fields::put_end;
+use report_fields::put_field;
+use report_fields::put_number;
+use report_fields::put_numbers;
+use report_fields::put_sent;
+use report_fields::put_state;
 
 // How the last session stands, how much was used, what the opening answered, and the end, if it was called.
 pub struct Results {
@@ -164,19 +34,6 @@ pub fn put_results(results: Results, sent: &[u8], text: &mut [u8], at: usize) ->
     let next = put_state(outcome, text, behind);
     let last = put_number(results.used, text, next);
     put_number(results.opened as u64, text, last)
-}
-
-// The end's answer, or `-` if there was no such call.
-fn put_end(ended: bool, answer: u8, text: &mut [u8], at: usize) -> usize
-    requires { ⌜ at + 20 ≤ length (now text) ⌝ }
-    ensures { λ r. ⌜ r ≤ at + 20 ⌝ }
-    ensures { λ r. ⌜ Adds (now (text .entry)) at (endText ended answer) r (now (text .exit)) ⌝ }
-{
-    if !ended {
-        text[at] = b'-';
-        return at + 1;
-    }
-    put_code(answer, text, at)
 }
 
 // The deliveries' answers, and the end's.

@@ -7,9 +7,9 @@ ghost use Rattle.protocol.specs.Bytes.{two};
 ghost use Rattle.protocol.specs.Requests.{address, name, request};
 ghost use Rattle.protocol.specs.Opening.{announces};
 ghost use Rattle.wire.specs.Written.{Wrote};
+use fields::put_port;
 use wire::copy;
 use wire::put_byte;
-use wire::put_port;
 
 // The version, CONNECT and the port.
 fn put_head(out: &mut [u8], at: usize, port: u16) -> usize

@@ -6,13 +6,13 @@ ghost use Rattle.protocol.specs.AddressReading.{domain};
 ghost use Rattle.protocol.specs.Requests.{negotiationReq, authenticationReq, addressField, proxyReq, kindOf};
 ghost use Rattle.wire.specs.Written.{Wrote};
 ghost use Rattle.requests_v5.specs.Sizes.{addressSize};
+use fields::method_byte;
+use fields::put_counted;
+use fields::put_port;
 use protocol::AddressKind;
 use protocol::AuthMethod;
 use wire::copy;
-use wire::method_byte;
 use wire::put_byte;
-use wire::put_counted;
-use wire::put_port;
 
 // NegotiationReq: the version, one method, the method.
 pub fn put_negotiation_req(out: &mut [u8], at: usize, method: AuthMethod) -> usize

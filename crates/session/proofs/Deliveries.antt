@@ -3,17 +3,15 @@ use Prim.Native.Nat.{ℕ, _+_, _%_, _^_, _≤_, _<_}
 use native.Mathlib.Nat.{zero-add}
 use native.Mathlib.Omega.{arith}
 use mathlib.Core.Path.{_≡_, refl, ap, sym, _∙_}
-use mathlib.Core.Bool.{Bool, true, false, cond, not}
+use mathlib.Core.Bool.{Bool, true, false, cond}
 use mathlib.Core.List.{List, [], _∷_, _++_}
 use lib.ListN.{length, take, drop, length-take, length-drop, length-append}
 use lib.Seq.{length-take-le}
 use borrow.Author.Tests.{le-leb, lt-leb}
 use Rattle.protocol.specs.declared.Reply.{Reply}
-use Rattle.protocol.specs.declared.SocksError.{SocksError}
-use Rattle.protocol.specs.declared.SocksError.the-variants.{ShortOutput, UnexpectedEof, Settled, OutOfOrder}
+use Rattle.protocol.specs.declared.SocksError.the-variants.{ShortOutput}
 use Rattle.protocol.specs.declared.Answer as code
-use Rattle.protocol.specs.declared.Answer.the-variants.{Accepted, Refused}
-use Rattle.protocol.specs.declared.Outcome.the-variants as Out
+use Rattle.protocol.specs.declared.Answer.the-variants.{Accepted}
 use lib.Dec.{leb}
 use Rattle.protocol.specs.declared.Bound.{Bound}
 use Rattle.protocol.specs.Client.{firstRoom, room, talkAt, client}
@@ -28,17 +26,19 @@ use Rattle.sending.proofs.Stages.{awaits}
 use Rattle.starting.specs.declared.Starting.{Starting}
 use Rattle.starting.specs.Starting.{firstSize, refused, startAt}
 use Rattle.starting.proofs.Laws.{first-part, sent-fits, sent-within}
-use Rattle.turns.specs.declared.Taken.{Taken}
-use Rattle.turns.specs.Turns.{keptIn, Takes}
+use Rattle.stages.specs.declared.Ending.{Ending}
+use Rattle.stages.specs.Ends.{endAt}
+use Rattle.turns.specs.Turns.{keptIn}
+use Rattle.taking.specs.declared.Taken.{Taken}
+use Rattle.taking.specs.Takes.{Takes}
 use Rattle.session.specs.declared.Session.{Session}
 use Rattle.session.specs.declared.Ended.{Ended}
-use Rattle.session.specs.Session.{sideOf, heldBytes, view, packed, outcome}
+use Rattle.session.specs.Session.{sideOf, view}
 use Rattle.session.specs.Calls.{Call, refusal, Starts, started, starts, start, Delivers, delivered, moves, takes, deliver, end, endedBy}
-use Rattle.session.specs.Ends.{endAwaiting}
 use Rattle.receiving.specs.declared.Received.{Received}
 use Rattle.receiving.specs.Received.{Ways, settled, unstarted, short, none, taken, Receives}
 use Rattle.talk.specs.Attempts.{decidedIn, decidedBy, oneIfWaiting, attemptsBy}
-use Rattle.talk.specs.Talk.{failed, ended, feed, onward, isOver}
+use Rattle.talk.specs.Talk.{feed, onward, isOver}
 
 -- ---- which way a delivery goes
 
@@ -179,25 +179,19 @@ module _ (s : Session) (out : List ℕ) {r : Starting} (q : r ≡ startAt (s .st
         inside = rw o (omega (arith, length-append p (drop (length p) out)));
       }
 
--- ---- an end, and the outcome
+-- ---- an end: the session at the stage behind it
 
-module _ (s : Session) where
-  pub end-settled : rank (s .stage) ≡ 0 → record { answer = Refused Settled; session = s } ≡ endedBy (end s)
-  unfolding end
-  end-settled z = rw (is-over (s .stage) (s .bound) (heldBytes s) z)
+abbrev endCall : Session → Ending → Ended
+endCall s r = record { answer = r .answer; session = record { stage = r .stage; started = s .started; held = r .held; hold = s .hold; bound = s .bound; attempts = s .attempts; requests = s .requests } }
 
-  pub end-waits : {w : Reply} → s .stage ≡ Awaiting w → endAwaiting (s .started) s ≡ endedBy (end s)
-  unfolding end
-  end-waits q = rw (waits-on (s .bound) (heldBytes s) q) (go (s .started))
-    where
-      go : (g : Bool)
-          → endAwaiting g s
-          ≡ endedBy (cond (not g) (refusal OutOfOrder s []) (record { answer = Accepted; session = packed s (ended (failed UnexpectedEof)); used = 0; sent = 0; output = [] }))
-      go true = refl
-      go false = refl
+end-call : (held : ℕ) (hold : List ℕ) (x : Bound) (n : ℕ) (q : Requests) (stage : Stage) (g : Bool)
+    → let s : Session = record { stage = stage; started = g; held = held; hold = hold; bound = x; attempts = n; requests = q } in
+    endCall s (endAt stage g held) ≡ endedBy (end s)
+unfolding end
+end-call held hold x n q (Awaiting e) true = refl
+end-call held hold x n q (Awaiting e) false = refl
+end-call held hold x n q Open g = refl
+end-call held hold x n q (Failed y) g = refl
 
-  pub ends-by : {g : Bool} → s .started ≡ g → {r : Ended} → r ≡ endAwaiting g s → r ≡ endAwaiting (s .started) s
-  ends-by q e = e ∙ ap (λ (g : Bool). endAwaiting g s) (sym q)
-
-  pub outcome-failed : {x : SocksError} → s .stage ≡ Failed x → Out.Failed x ≡ outcome s
-  outcome-failed q = rw q
+pub ends-as : (s : Session) {r : Ending} → r ≡ endAt (s .stage) (s .started) (s .held) → endCall s r ≡ endedBy (end s)
+ends-as s q = ap (endCall s) q ∙ end-call (s .held) (s .hold) (s .bound) (s .attempts) (s .requests) (s .stage) (s .started)

@@ -18,7 +18,8 @@ use Rattle.bound_text.specs.declared.Written.{Written}
 use Rattle.bound_text.specs.Text.{boundText}
 use Rattle.bound_text.specs.Written.{writeText, Writes}
 use Rattle.session.specs.declared.Session.{Session}
-use Rattle.session.specs.Session.{bound, isOpen, writeBound}
+use Rattle.stages.specs.Told.{isOpen}
+use Rattle.session.specs.Session.{bound, writeBound}
 use Rattle.receiving.proofs.Laws.{take-least}
 
 -- by the stage

@@ -1,4 +1,3 @@
 pub mod Session
 pub mod Calls
 pub mod Hold
-pub mod Ends

@@ -1,6 +1,6 @@
 -- The session as the calls hold it, and the session of a handshake's side that it stands for.
 use Prim.Native.Nat.{ℕ, _+_, _%_, _^_}
-use mathlib.Core.Bool.{Bool, true, false, cond}
+use mathlib.Core.Bool.{cond}
 use mathlib.Core.List.{List, [], _++_}
 use lib.ListN.{length, take, drop}
 use Rattle.protocol.specs.declared.Outcome.{Outcome}
@@ -10,6 +10,7 @@ use Rattle.protocol.specs.Bound.{addressOf}
 use Rattle.protocol.specs.Client as client
 use Rattle.sending.specs.declared.Stage.{Stage}
 use Rattle.sending.specs.declared.Stage.the-variants.{Awaiting, Open, Failed}
+use Rattle.stages.specs.Told.{isOpen}
 use Rattle.session.specs.declared.Session.{Session}
 use Rattle.talk.specs.Talk as talk
 use Rattle.sending.specs.Stages.{SideSession, viewAt, stageOf, holdsOf, boundAfter}
@@ -52,11 +53,6 @@ outcome s = client.outcomeOf (view s)
 -- F-1: the bound address, as it is handed out; of a session that is not open IPv4 zeros and port 0
 abbrev pub bound : Session → Address
 bound s = addressOf (client.boundIn (view s))
-
-abbrev pub isOpen : Stage → Bool
-isOpen (Awaiting e) = false
-isOpen Open = true
-isOpen (Failed x) = false
 
 -- its text: 17 if the session is not open, then 18 if the buffer is shorter than the text
 unfoldable pub writeBound : Session → List ℕ → TextCall

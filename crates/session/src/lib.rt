@@ -1,10 +1,9 @@
 // The client's side of a SOCKS handshake: a session that is prepared, started, fed with pieces, and ended.
 
 ghost use mathlib.Core.Path.{_≡_};
-ghost use Rattle.session.specs.Session.{outcome, bound, isOpen, writeBound};
+ghost use Rattle.session.specs.Session.{outcome, bound, writeBound};
 ghost use Rattle.bound_text.specs.Written.{Writes};
 ghost use Rattle.session.specs.Calls.{Starts, start, Delivers, deliver, endedBy, end};
-ghost use Rattle.session.specs.Ends.{endAwaiting};
 use bound_text::Written;
 use bound_text::put_bound;
 use protocol::Address;
@@ -16,6 +15,7 @@ use receiving::receive;
 use receiving::send;
 use sending::Requests;
 use sending::Stage;
+use stages::is_open;
 use std::num::wrapping_add_u64;
 use wire::copy;
 use wire::least;
@@ -55,16 +55,6 @@ pub struct Delivered {
 pub struct Ended {
     pub answer: Answer,
     pub session: Session,
-}
-
-fn is_open(stage: Stage) -> bool
-    ensures { λ r. ⌜ r ≡ isOpen stage ⌝ }
-{
-    match stage {
-        Stage::Awaiting(reply) => false,
-        Stage::Open => true,
-        Stage::Failed(error) => false,
-    }
 }
 
 impl Session {
@@ -139,56 +129,28 @@ impl Session {
         }
     }
 
-    // Settling changes the stage and the number of held bytes, and nothing else.
-    fn settled(self, stage: Stage) -> Session
-        ensures { λ r. ⌜ r ≡ record { stage = stage; started = self .started; held = 0; hold = self .hold; bound = self .bound; attempts = self .attempts; requests = self .requests } ⌝ }
-    {
-        let hold = self.hold;
-        let bound = self.bound;
-        let requests = self.requests;
-        Session {
-            stage: stage,
-            started: self.started,
-            held: 0,
-            hold: hold,
-            bound: bound,
-            attempts: self.attempts,
-            requests: requests,
-        }
-    }
-
-    // The stream is not at its end for this session.
-    fn unended(self, error: SocksError) -> Ended
-        ensures { λ r. ⌜ r ≡ record { answer = Answer.Refused error; session = self } ⌝ }
-    {
-        Ended {
-            answer: Answer::Refused(error),
-            session: self,
-        }
-    }
-
-    // Not before the start.
-    fn end_awaiting(self) -> Ended
-        ensures { λ r. ⌜ r ≡ endAwaiting (self .started) self ⌝ }
-    {
-        if !self.started {
-            return self.unended(SocksError::OutOfOrder);
-        }
-        Ended {
-            answer: Answer::Accepted,
-            session: self.settled(Stage::Failed(SocksError::UnexpectedEof)),
-        }
-    }
-
     // The stream has ended: a session that waits has failed. Refused if it is settled, or not started.
     pub fn end(self) -> Ended
         ensures { λ r. ⌜ r ≡ endedBy (end self) ⌝ }
     {
         let stage = self.stage;
-        match stage {
-            Stage::Awaiting(reply) => self.end_awaiting(),
-            Stage::Open => self.unended(SocksError::Settled),
-            Stage::Failed(error) => self.unended(SocksError::Settled),
+        let ending = stages::end(stage, self.started, self.held);
+        let answer = ending.answer;
+        let last = ending.stage;
+        let hold = self.hold;
+        let bound = self.bound;
+        let requests = self.requests;
+        Ended {
+            answer: answer,
+            session: Session {
+                stage: last,
+                started: self.started,
+                held: ending.held,
+                hold: hold,
+                bound: bound,
+                attempts: self.attempts,
+                requests: requests,
+            },
         }
     }
 
@@ -197,11 +159,7 @@ impl Session {
         ensures { λ r. ⌜ r ≡ outcome self ⌝ }
     {
         let stage = self.stage;
-        match stage {
-            Stage::Awaiting(reply) => Outcome::Waiting,
-            Stage::Open => Outcome::Open,
-            Stage::Failed(error) => Outcome::Failed(error),
-        }
+        stages::outcome(stage)
     }
 
     // The address and port that the proxy's last reply named; of a session that is not open IPv4 zeros and port 0.

@@ -21,7 +21,8 @@ use Rattle.sending.specs.declared.Stage.{Stage}
 use Rattle.sending.specs.declared.Stage.the-variants.{Awaiting, Open as OpenStage, Failed}
 use Rattle.sending.specs.Stages.{viewAt}
 use Rattle.session.specs.declared.Session.{Session}
-use Rattle.session.specs.Session.{heldBytes, outcome, bound, isOpen, writeBound}
+use Rattle.stages.specs.Told.{isOpen}
+use Rattle.session.specs.Session.{heldBytes, outcome, bound, writeBound}
 use Rattle.socks.specs.Demand3.{tunnelOf, joinedOf, Demand3}
 use Rattle.talk.specs.Tunnel.{Delivery}
 use Rattle.talk.specs.Lawful.{Begins}

@@ -20,7 +20,8 @@ use Rattle.protocol.proofs.Limits.{answer-not-11, outcome-not-11}
 use Rattle.protocol.proofs.Openings.{check5-just, check4-just, lookup5, lookup4}
 use Rattle.session.specs.declared.Session.{Session}
 use Rattle.session.specs.declared.Prepared.{Prepared}
-use Rattle.session.specs.Session.{view, packed, outcome, bound, isOpen, writeBound, firstRoomAt, firstAt, roomAt}
+use Rattle.stages.specs.Told.{isOpen}
+use Rattle.session.specs.Session.{view, packed, outcome, bound, writeBound, firstRoomAt, firstAt, roomAt}
 use Rattle.session.specs.Calls.{Call, Without, refusal, emptySession, preparedBy, prepare5, prepare4, starts, start, takes, deliver, end}
 use Rattle.bound_text.specs.Text.{boundText}
 use Rattle.bound_text.specs.Written.{TextCall, unwritten}

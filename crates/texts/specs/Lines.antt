@@ -10,8 +10,8 @@ use Rattle.protocol.specs.declared.AddressKind.the-variants.{Ipv4, Ipv6, Domain
 use Rattle.protocol.specs.AddressReading.{destinationOf}
 use Rattle.protocol.specs.Host.{strip}
 use Rattle.protocol.specs.Utf8.{isUtf8}
-use Rattle.addresses.specs.declared.AddressText.{AddressText}
-use Rattle.addresses.specs.Answers.{addressText}
+use Rattle.ipv4_text.specs.declared.AddressText.{AddressText}
+use Rattle.ipv4_text.specs.Answers.{addressText}
 
 -- `4` or `6`, a space, and the address; or `n`
 abbrev pub kindLine : AddressKind → List ℕ → List ℕ

@@ -14,7 +14,7 @@ ghost use Rattle.numerals.specs.Digits.{hexOf};
 ghost use Rattle.protocol.specs.AddressReading.{destinationOf};
 ghost use Rattle.protocol.specs.Host.{strip};
 ghost use Rattle.protocol.specs.Utf8.{isUtf8};
-ghost use Rattle.addresses.specs.Answers.{addressText};
+ghost use Rattle.ipv4_text.specs.Answers.{addressText};
 ghost use Rattle.texts.specs.Records.{isKind, Sized};
 ghost use Rattle.texts.specs.Lines.{addressLine, utf8Line, hostLine, answerOf, lineOf};
 

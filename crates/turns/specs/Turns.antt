@@ -1,28 +1,26 @@
 -- The turns of a delivery: what a stage does with the unread bytes.
-use Prim.Native.Nat.{ℕ, _+_, _-_, _≤_, _<_}
+use Prim.Native.Nat.{ℕ, _+_, _≤_, _<_}
 use mathlib.Core.Path.{_≡_}
 use mathlib.Core.Bool.{Bool, true, false}
-use mathlib.Core.List.{List, _++_}
+use mathlib.Core.List.{List}
 use lib.ListN.{length, drop}
 use lib.Dec.{ltb}
 use Rattle.protocol.specs.declared.Reply.{Reply}
 use Rattle.protocol.specs.declared.Decision.{Decision}
 use Rattle.protocol.specs.declared.Decision.the-variants.{Undecided, Decided}
-use Rattle.protocol.specs.declared.Bound.{Bound}
-use Rattle.protocol.specs.Bound.{Endpoint, boundBy, bytesIn, boundOf}
+use Rattle.protocol.specs.Bound.{Endpoint, boundBy}
 use Rattle.protocol.specs.Replies.{decide}
 use Rattle.protocol.specs.Client.{Kept, talkAt, client}
 use Rattle.sending.specs.declared.Lengths.{Lengths}
 use Rattle.sending.specs.declared.Due.{Due}
 use Rattle.sending.specs.declared.Stage.{Stage}
 use Rattle.sending.specs.declared.Stage.the-variants.{Awaiting, Open, Failed}
-use Rattle.sending.specs.Stages.{SideSession, SideFed, sessionAt, stageOf, holdsOf, boundAfter, rank}
+use Rattle.sending.specs.Stages.{SideFed, sessionAt, rank}
 use Rattle.sending.specs.Parts.{part, requestsOf}
 use Rattle.sending.specs.Due.{dueJudged, dueFrom, stillDue}
 use Rattle.bound.specs.Named.{lastOf, Whole}
-use Rattle.turns.specs.declared.Taken.{Taken}
-use Rattle.talk.specs.Talk.{done, failed, ended, unmoved, feed, heldBy}
-use Rattle.talk.specs.Attempts.{decidedIn, oneIfWaiting}
+use Rattle.talk.specs.Talk.{done, failed, ended, unmoved, feed}
+use Rattle.talk.specs.Attempts.{decidedIn}
 
 -- requests of these lengths, whatever their bytes
 abbrev pub keptIn : Lengths → List ℕ → Kept
@@ -115,29 +113,3 @@ pub record Worked (l : Lengths) (e : Reply) (bytes : List ℕ) (stage : Stage) (
   pub rests : Rests stage (drop place bytes)
   pub ready : Ready stage e begin bytes
   pub few : sent ≤ stillDue (Awaiting e)
-
--- what a piece comes to where nothing is left to do behind a place: what a session then has stands at the hold's start
-pub record Keeps (m : SideSession) (place : ℕ) (held piece hold : List ℕ) (bound : Bound) (decided : ℕ) (r : Taken) (hold′ : List ℕ) : Type 0 where
-  pub staged : r .stage ≡ stageOf m
-  pub bounds : r .bound ≡ boundAfter m bound
-  pub counts : r .held ≡ length (holdsOf m)
-  pub holds : hold′ ≡ holdsOf m ++ drop (length (holdsOf m)) hold
-  pub uses : r .used ≡ place + length (heldBy m) - length held
-  pub within : r .used ≤ length piece
-  pub tries : r .attempts ≡ decided + oneIfWaiting m
-
--- a session that opens: what its last reply names stands at the hold's start
-pub record Opens (x : Endpoint) (stage : Stage) (used from sent decided : ℕ) (hold : List ℕ) (r : Taken) (hold′ : List ℕ) : Type 0 where
-  pub is : r ≡ record { stage = stage; held = length (bytesIn (x .address)); used = used; from = from; sent = sent; bound = boundOf x; attempts = decided }
-  pub holds : hold′ ≡ bytesIn (x .address) ++ drop (length (bytesIn (x .address))) hold
-
--- a piece taken: all that held bytes and piece do, whatever the bytes of the requests
-pub record Takes (l : Lengths) (e : Reply) (held piece hold : List ℕ) (bound : Bound) (r : Taken) (hold′ : List ℕ) : Type 0 where
-  pub session : SideSession
-  pub place : ℕ
-  pub whole : (b : List ℕ) → feed (client (keptIn l b)) (talkAt (keptIn l b) e) (held ++ piece) ≡ record { session = session; sent = part b (r .from) (r .sent); place = place }
-  pub decided : ℕ
-  pub decides : (b : List ℕ) → decidedIn (client (keptIn l b)) (talkAt (keptIn l b) e) (held ++ piece) ≡ decided
-  pub keeps : Keeps session place held piece hold bound decided r hold′
-  pub few : r .sent ≤ stillDue (Awaiting e)
-  pub inside : r .from + r .sent ≤ 778

@@ -1,29 +1,15 @@
--- The table's rule, and the loop over a text.
+-- The loop over a text, and texts in two parts.
 use Prim.Native.Nat.{ℕ, _+_, _<_, _≤_}
 use native.Mathlib.Numerals.{add-one}
 use mathlib.Core.Path.{_≡_, refl, sym}
-use mathlib.Core.Bool.{Bool, true}
+use mathlib.Core.Bool.{true}
 use mathlib.Core.List.{List, [], _∷_, _++_}
-use lib.Dec.{eqb}
 use lib.ListN.{length, getD, drop, drop-of-length-le}
 use lib.Seq.{drop-cons}
-use borrow.Author.Tests.{eqb-true, lt-ltb}
+use borrow.Author.Tests.{lt-ltb}
 use Rattle.protocol.specs.declared.Utf8State.{Utf8State}
 use Rattle.protocol.specs.declared.Utf8State.the-variants.{Boundary}
 use Rattle.protocol.specs.Utf8.{classOf, first, next, scan, isBoundary, isUtf8}
-use Rattle.protocol.proofs.Tests.{allBelow, below}
-use Rattle.utf8.specs.Table.{table}
-
-abbrev right : ℕ → Bool
-right b = eqb (getD table b 0) (classOf b)
-
--- the one test of all entries, and what it says of each
-classes : allBelow 256 right ≡ true
-unfolding table classOf
-classes = refl
-
-pub class-at : (b : ℕ) → b < 256 → getD table b 0 ≡ classOf b
-class-at b h = eqb-true (getD table b 0) (classOf b) (below 256 right classes b h)
 
 -- Where the rest of a text from a state ends as the whole does: a turn, and the text's end.
 module _ (s : List ℕ) (i : ℕ) (st whole : Utf8State) (inv : scan st (drop i s) ≡ whole) where

@@ -1,6 +1,6 @@
 use Rattle.protocol.specs.AddressReading.{ipv4Of, destinationOf}
-use Rattle.addresses.proofs.Dots.{Read4, read4}
-use Rattle.addresses.proofs.Gaps.{any-name}
+use Rattle.ipv4_text.proofs.Dots.{Read4, read4}
+use Rattle.addresses.proofs.Names.{any-name}
 use borrow.Author.Needs.{needs}
 use Rattle.addresses.proofs.read_address.Statement.{statement}
 use Rattle.addresses.proofs.read_address.Tie as tie

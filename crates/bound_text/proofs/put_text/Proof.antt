@@ -1,4 +1,4 @@
-use Rattle.bound_text.proofs.Puts.{five, room}
+use Rattle.groups_text.proofs.Puts.{five, room}
 use Rattle.bound_text.proofs.Texts.{text-of}
 use Rattle.numerals.proofs.Laws.{one}
 use Rattle.protocol.specs.Requests.{kindOf}

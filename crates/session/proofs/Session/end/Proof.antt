@@ -1,47 +1,13 @@
-use mathlib.Core.Path.{ap, _∙_}
-use Rattle.sending.specs.Stages.{rank}
-use Rattle.session.proofs.Deliveries.{end-settled, end-waits}
+use Rattle.session.proofs.Deliveries.{ends-as}
 use borrow.Author.Needs.{needs}
 use Rattle.session.proofs.Session.end.Statement.{statement}
 use Rattle.session.proofs.Session.end.Tie as tie
 
-enum-known-stage : tie.Need-enum-known-stage
-enum-known-stage c = search needs
-
-end-awaiting-requires : tie.Need-end-awaiting-requires
-end-awaiting-requires c κs = search needs
-
-enum-told : tie.Need-enum-told
-enum-told c = search needs
-
-unended-requires : tie.Need-unended-requires
-unended-requires c κs = search needs
-
-enum-known-stage-2 : tie.Need-enum-known-stage-2
-enum-known-stage-2 c = search needs
-
-unended-requires-2 : tie.Need-unended-requires-2
-unended-requires-2 c κs = search needs
+end-requires : tie.Need-end-requires
+end-requires c κs = search needs
 
 returns : tie.Need-returns
-returns c = c .end-awaiting .ensures ∙ end-waits (c .before .before .before .before .args .self) (c .before .before .stage .given .1)
-
-returns-2 : tie.Need-returns-2
-returns-2 c = c .unended .ensures ∙ end-settled (c .before .before .before .args .self) (ap rank (c .before .enum-told .given .1))
-
-returns-3 : tie.Need-returns-3
-returns-3 c = c .unended2 .ensures ∙ end-settled (c .before .before .before .before .args .self) (ap rank (c .before .before .stage2 .given .1))
+returns c = ends-as (c .before .before .before .before .args .self) (c .before .before .before .end .ensures)
 
 pub end-spec : {M : Type 1} → statement M
-end-spec =
-    tie.close
-    (tie.spec
-    enum-known-stage
-    end-awaiting-requires
-    enum-told
-    unended-requires
-    enum-known-stage-2
-    unended-requires-2
-    returns
-    returns-2
-    returns-3)
+end-spec = tie.close (tie.spec end-requires returns)

@@ -1,26 +1,13 @@
-use Rattle.session.proofs.Deliveries.{outcome-failed}
+use Rattle.session.specs.Session.{heldBytes}
 use borrow.Author.Needs.{needs}
 use Rattle.session.proofs.Session.outcome.Statement.{statement}
 use Rattle.session.proofs.Session.outcome.Tie as tie
 
-enum-known-stage : tie.Need-enum-known-stage
-enum-known-stage c = search needs
-
-enum-told : tie.Need-enum-told
-enum-told c = search needs
-
-enum-known-stage-2 : tie.Need-enum-known-stage-2
-enum-known-stage-2 c = search needs
+outcome-requires : tie.Need-outcome-requires
+outcome-requires c κs = search needs
 
 returns : tie.Need-returns
-returns c = search needs
-
-returns-2 : tie.Need-returns-2
-returns-2 c = search needs
-
-returns-3 : tie.Need-returns-3
-returns-3 c = outcome-failed (c .before .before .before .args .self) (c .before .stage2 .given .1)
+returns c = let s = c .before .args .self in c .outcome .ensures (s .bound) (heldBytes s)
 
 pub outcome-spec : {M : Type 1} → statement M
-outcome-spec =
-    tie.close (tie.spec enum-known-stage enum-told enum-known-stage-2 returns returns-2 returns-3)
+outcome-spec = tie.close (tie.spec outcome-requires returns)

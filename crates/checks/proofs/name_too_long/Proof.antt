@@ -1,0 +1,12 @@
+use borrow.Author.Needs.{needs}
+use Rattle.checks.proofs.name_too_long.Statement.{statement}
+use Rattle.checks.proofs.name_too_long.Tie as tie
+
+returns : tie.Need-returns
+returns c = rw (c .if1 .taken)
+
+returns-2 : tie.Need-returns-2
+returns-2 c = search needs
+
+pub name-too-long-spec : {M : Type 1} → statement M
+name-too-long-spec = tie.close (tie.spec returns returns-2)

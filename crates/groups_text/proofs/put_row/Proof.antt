@@ -1,0 +1,64 @@
+use Rattle.groups_text.proofs.Puts.{five, part-length, row-none, row-first}
+use Rattle.numerals.proofs.Laws.{nothing, then}
+use native.Mathlib.Omega.{arith}
+use borrow.Author.Needs.{needs}
+use Rattle.groups_text.proofs.put_row.Statement.{statement}
+use Rattle.groups_text.proofs.put_row.Tie as tie
+
+returns : tie.Need-returns
+returns c =
+    let a = c .before .before .before .args in
+    (search needs, rw (row-none (a .base) (a .mark) (a .values .now) (omega arith)) (nothing _ _))
+
+shared-slice-read-wide : tie.Need-shared-slice-read-wide
+shared-slice-read-wide c = search needs
+
+wide-requires : tie.Need-wide-requires
+wide-requires c κs = search needs
+
+put-digits-requires : tie.Need-put-digits-requires
+put-digits-requires c κs =
+    let b = c .before .before .before .before .before .before in
+    let f = five (b .args .base) (c .before .wide .result) (omega arith) (omega (arith, c .before .before .shared-slice-known2 .given 0)) in
+    (search needs, (search needs, omega arith))
+
+sub-put-behind : tie.Need-sub-put-behind
+sub-put-behind c = search needs
+
+part-put-behind-start : tie.Need-part-put-behind-start
+part-put-behind-start c = search needs
+
+part-put-behind-end : tie.Need-part-put-behind-end
+part-put-behind-end c = search needs
+
+put-behind-requires : tie.Need-put-behind-requires
+put-behind-requires c κs =
+    let b = c .before .before .before .before .before .before .before .before .before .before .before in
+    let f = five (b .args .base) (c .before .before .before .before .before .before .wide .result) (omega arith) (omega (arith, c .before .before .before .before .before .before .before .shared-slice-known2 .given 0)) in
+    (search needs, (search needs, omega (arith, part-length (b .args .values .now) 1)))
+
+same-length : tie.Need-same-length
+same-length c = search needs
+
+returns-2 : tie.Need-returns-2
+returns-2 c =
+    let d = c .before .before .before .before .before .before .before in
+    let b = d .before .before .before .before .before .before .before in
+    let w = d .before .before .wide in
+    let f = five (b .args .base) (w .result) (omega arith) (omega (arith, d .before .before .before .shared-slice-known2 .given 0)) in
+    (omega (arith, part-length (b .args .values .now) 1), rw (row-first (b .args .base) (b .args .mark) (b .args .values .now) (w .result) (omega arith) (w .ensures)) (then (d .put-digits .ensures) (c .before .before .put-behind .ensures .1)))
+
+pub put-row-spec : {M : Type 1} → statement M
+put-row-spec =
+    tie.close
+    (tie.spec
+    returns
+    shared-slice-read-wide
+    wide-requires
+    put-digits-requires
+    sub-put-behind
+    part-put-behind-start
+    part-put-behind-end
+    put-behind-requires
+    same-length
+    returns-2)

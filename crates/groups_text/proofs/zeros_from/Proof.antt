@@ -1,0 +1,17 @@
+use borrow.Author.Needs.{needs}
+use borrow.Author.Tests.{eq-eqb, ne-eqb}
+use native.Mathlib.Numerals.{add-one}
+use Rattle.groups_text.proofs.zeros_from.Statement.{statement}
+use Rattle.groups_text.proofs.zeros_from.Tie as tie
+
+add-result : tie.Need-add-result
+add-result c = search needs
+
+returns : tie.Need-returns
+returns c = rw (eq-eqb _ _ (c .if1 .taken)) (add-one _)
+
+returns-2 : tie.Need-returns-2
+returns-2 c = rw (ne-eqb _ _ (c .if1 .left))
+
+pub zeros-from-spec : {M : Type 1} → statement M
+zeros-from-spec = tie.close (tie.spec add-result returns returns-2)

@@ -1,0 +1,62 @@
+use Prim.Native.Nat.{ℕ, _+_, _≤_}
+use native.Mathlib.Omega.{arith}
+use mathlib.Core.Path.{_≡_}
+use mathlib.Core.List.{List}
+use lib.ListN.{length, replicate}
+use Rattle.openings.specs.Asked.{target5}
+use Rattle.openings.proofs.KeptBy.{zeros-size}
+use Rattle.keeping_v5.proofs.Keeping.{room-second, room-third, keeps5}
+use borrow.Author.Needs.{needs}
+use Rattle.keeping_v5.proofs.keep.Statement.{statement}
+use Rattle.keeping_v5.proofs.keep.Tie as tie
+
+room-first : {bs : List ℕ} → bs ≡ replicate 1024 0 → 0 + 3 ≤ length bs
+room-first z = omega (arith, zeros-size z)
+
+method-of-requires : tie.Need-method-of-requires
+method-of-requires c κs = search needs
+
+put-negotiation-req-requires : tie.Need-put-negotiation-req-requires
+put-negotiation-req-requires c κs = room-first (c .before .before .before .before .before .before .pre .0)
+
+put-authentication-requires : tie.Need-put-authentication-requires
+put-authentication-requires c κs =
+    let p = c .before .before .before .before .before .before .before .before .before .before .pre in
+    (p .1 .credentials, room-second (c .before .before .before .before .method-of .result) (p .0) (c .before .before .before .put-negotiation-req .ensures))
+
+put-proxy-requires : tie.Need-put-proxy-requires
+put-proxy-requires c κs =
+    let start = c .before .before .before .before .before .before .before .before .before .before .before .before .before .before in
+    let a = start .args in
+    let p = start .pre in
+    (p .1 .name, room-third (c .before .before .before .before .before .before .before .before .method-of .result) (p .0) (c .before .before .before .before .before .before .before .put-negotiation-req .ensures) (a .config .«proxy_auth») (a .user .now) (a .password .now) (c .before .before .before .put-authentication .ensures) (p .1 .credentials))
+
+sub-t18 : tie.Need-sub-t18
+sub-t18 c = search needs
+
+sub-t19 : tie.Need-sub-t19
+sub-t19 c = search needs
+
+same-length : tie.Need-same-length
+same-length c = search needs
+
+returns : tie.Need-returns
+returns c =
+    let start = c .before .before .before .before .before .before .before .before .before .before .before .before .before .before .before .before .before in
+    let a = start .args in
+    let m = c .before .before .before .before .before .before .before .before .before .before .before .method-of in
+    keeps5 (m .result) (start .pre .0) (c .before .before .before .before .before .before .before .before .before .before .put-negotiation-req .ensures) (a .config .«proxy_auth») (a .user .now) (a .password .now) (c .before .before .before .before .before .before .put-authentication .ensures) (m .ensures)
+    (target5 (a .asked) (a .text .now)) (a .port) (a .config .optimistic) (c .before .before .put-proxy .ensures)
+
+pub keep-spec : {M : Type 1} → statement M
+keep-spec =
+    tie.close
+    (tie.spec
+    method-of-requires
+    put-negotiation-req-requires
+    put-authentication-requires
+    put-proxy-requires
+    sub-t18
+    sub-t19
+    same-length
+    returns)

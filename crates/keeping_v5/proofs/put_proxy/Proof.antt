@@ -1,0 +1,99 @@
+use Prim.Native.Nat.{ℕ, _≤_}
+use native.Mathlib.Omega.{arith}
+use mathlib.Core.Path.{_≡_}
+use mathlib.Core.List.{List}
+use lib.ListN.{length, take, length-take}
+use Rattle.openings.proofs.Targets.{four-long, four-size}
+use Rattle.keeping_v5.proofs.Keeping.{proxy-room, four, six, named, asks}
+use borrow.Author.Needs.{needs}
+use Rattle.keeping_v5.proofs.put_proxy.Statement.{statement}
+use Rattle.keeping_v5.proofs.put_proxy.Tie as tie
+
+four-small : (bs : List ℕ) → length (take 4 bs) ≤ 255
+four-small bs = omega (arith, length-take 4 bs)
+
+six-small : {n : ℕ} → n ≡ 16 → n ≤ 255
+six-small l = omega arith
+
+sixteen : (c : tie.Start) → length (c .args .asked .bytes) ≡ 16
+sixteen c = search needs
+
+enum-told : tie.Need-enum-told
+enum-told c = search needs
+
+array-share-prefix-ip : tie.Need-array-share-prefix-ip
+array-share-prefix-ip c = four-long (sixteen (c .before .before .before .before .before .before))
+
+slice-aggregate-put-proxy-req : tie.Need-slice-aggregate-put-proxy-req
+slice-aggregate-put-proxy-req c = let start = c .before .before .before .before .before .before .before in four-size (start .args .asked .bytes) (sixteen start)
+
+put-proxy-req-requires : tie.Need-put-proxy-req-requires
+put-proxy-req-requires c κs =
+    let start = c .before .before .before .before .before .before .before in
+    let a = start .args in
+    proxy-room (a .asked .kind) (length (take 4 (a .asked .bytes))) (a .at) (length (a .bytes .now)) (four-small (a .asked .bytes)) (start .pre .1)
+
+enum-told-2 : tie.Need-enum-told-2
+enum-told-2 c = search needs
+
+slice-aggregate-put-proxy-req-2 : tie.Need-slice-aggregate-put-proxy-req-2
+slice-aggregate-put-proxy-req-2 c = search needs
+
+put-proxy-req-requires-2 : tie.Need-put-proxy-req-requires-2
+put-proxy-req-requires-2 c κs =
+    let start = c .before .before .before .before .before .before .before in
+    let a = start .args in
+    proxy-room (a .asked .kind) (length (a .asked .bytes)) (a .at) (length (a .bytes .now)) (six-small (sixteen start)) (start .pre .1)
+
+enum-told-3 : tie.Need-enum-told-3
+enum-told-3 c = search needs
+
+put-proxy-req-requires-3 : tie.Need-put-proxy-req-requires-3
+put-proxy-req-requires-3 c κs =
+    let start = c .before .before .before .before .before .before in
+    let a = start .args in
+    proxy-room (a .asked .kind) (length (a .text .now)) (a .at) (length (a .bytes .now)) (start .pre .0 (c .before .enum-told3 .given .1)) (start .pre .1)
+
+same-length : tie.Need-same-length
+same-length c = search needs
+
+returns : tie.Need-returns
+returns c =
+    let a = c .before .before .before .before .before .before .before .before .before .before .args in
+    asks (a .port) (four (a .asked .bytes) (a .text .now) (c .before .before .before .before .before .enum-told .given .1)) (c .before .before .put-proxy-req .ensures)
+
+same-length-2 : tie.Need-same-length-2
+same-length-2 c = search needs
+
+returns-2 : tie.Need-returns-2
+returns-2 c =
+    let a = c .before .before .before .before .before .before .before .before .before .before .args in
+    asks (a .port) (six (a .asked .bytes) (a .text .now) (c .before .before .before .before .before .enum-told2 .given .1)) (c .before .before .put-proxy-req2 .ensures)
+
+same-length-3 : tie.Need-same-length-3
+same-length-3 c = search needs
+
+returns-3 : tie.Need-returns-3
+returns-3 c =
+    let a = c .before .before .before .before .before .before .before .before .before .args in
+    asks (a .port) (named (a .asked .bytes) (a .text .now) (c .before .before .before .before .enum-told3 .given .1)) (c .before .before .put-proxy-req3 .ensures)
+
+pub put-proxy-spec : {M : Type 1} → statement M
+put-proxy-spec =
+    tie.close
+    (tie.spec
+    enum-told
+    array-share-prefix-ip
+    slice-aggregate-put-proxy-req
+    put-proxy-req-requires
+    enum-told-2
+    slice-aggregate-put-proxy-req-2
+    put-proxy-req-requires-2
+    enum-told-3
+    put-proxy-req-requires-3
+    same-length
+    returns
+    same-length-2
+    returns-2
+    same-length-3
+    returns-3)

@@ -1,0 +1,21 @@
+use borrow.Author.Tests.{not-true, not-false}
+use Rattle.stages.proofs.Laws.{ends-unstarted, ends-failed}
+use borrow.Author.Needs.{needs}
+use Rattle.stages.proofs.end_awaiting.Statement.{statement}
+use Rattle.stages.proofs.end_awaiting.Tie as tie
+
+unended-requires : tie.Need-unended-requires
+unended-requires c κs = search needs
+
+returns : tie.Need-returns
+returns c =
+    let a = c .before .before .args in
+    ends-unstarted (a .stage) (a .started) (a .held) (not-true _ (c .before .if1 .taken)) (c .unended .ensures)
+
+returns-2 : tie.Need-returns-2
+returns-2 c =
+    let a = c .before .args in
+    ends-failed (a .stage) (a .started) (a .held) (not-false _ (c .if1 .left))
+
+pub end-awaiting-spec : {M : Type 1} → statement M
+end-awaiting-spec = tie.close (tie.spec unended-requires returns returns-2)
