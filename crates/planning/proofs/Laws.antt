@@ -11,7 +11,6 @@ use lib.Seq.{take-all, take-at, drop-at, drop-cons, getD-take, set-split, drop-d
 use lib.Dec.{leb}
 use borrow.Author.Tests.{leb-true, leb-false}
 use Rattle.protocol.specs.declared.Port.{Port}
-use Rattle.protocol.specs.declared.Port.the-variants.{Missing}
 use Rattle.protocol.specs.declared.Answer as code
 use Rattle.protocol.specs.declared.Answer.the-variants.{Accepted, Refused}
 use Rattle.protocol.specs.Opening.{check5, check4, Opening, opening5, opening4}
@@ -27,7 +26,7 @@ use Rattle.routing.specs.Route.{hostOf, portOf, Asked, over5, over4, askedBy, a
 use Rattle.routing.proofs.Asked.{asked-each}
 use Rattle.planning.specs.declared.Proxy.{Proxy}
 use Rattle.planning.specs.declared.Planned.{Planned}
-use Rattle.planning.specs.Plan.{partOf, proxyOf, proxiesOf, preparedFor, IsPrepared, keptHop, hopFor, hopsFor, bytesFor, endsWith, Plans}
+use Rattle.planning.specs.Plan.{partOf, proxyOf, proxiesOf, noProxy, preparedFor, IsPrepared, keptHop, hopFor, hopsFor, bytesFor, endsWith, Plans}
 
 -- ---- a part of a text
 
@@ -162,19 +161,6 @@ module _ (a : Asked) (later : List Asked) (hops : List Hop) (bytes : List ℕ) (
       }
 
 -- ---- preparing from a place on
-
--- what stands where no proxy does, which nothing reads
-abbrev noProxy : Proxy
-noProxy =
-    record {
-      version = Version.V4;
-      host = record { from = 0; len = 0 };
-      port = Missing;
-      «proxy_auth» = false;
-      optimistic = false;
-      user = record { from = 0; len = 0 };
-      password = record { from = 0; len = 0 };
-    }
 
 module _ (proxies : List Proxy) (eight : length proxies ≡ 8) (at count : ℕ) (l : at < count) (m : count ≤ 8) (text host : List ℕ) (port : Port)
     (hops : List Hop) (bytes : List ℕ) (full : length hops ≡ 8) (whole : length bytes ≡ 8192) (r : Prepared) (i : IsPrepared r (askedOf (proxiesOf text (drop at (take count proxies))) host port))

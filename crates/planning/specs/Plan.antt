@@ -1,10 +1,12 @@
 -- A route as a caller gives it, and what preparing its openings comes to.
-use Prim.Native.Nat.{ℕ, _*_}
+use Prim.Native.Nat.{ℕ, _-_, _*_}
 use mathlib.Core.Path.{_≡_}
-use mathlib.Core.Bool.{Bool, true}
+use mathlib.Core.Bool.{Bool, true, false}
 use mathlib.Core.List.{List, [], _∷_, _++_, map}
-use lib.ListN.{length, drop}
+use lib.ListN.{length, take, drop, replicate}
 use lib.Dec.{leb}
+use Rattle.protocol.specs.declared.Port.{Port}
+use Rattle.protocol.specs.declared.Port.the-variants.{Missing}
 use Rattle.protocol.specs.declared.Answer as code
 use Rattle.protocol.specs.declared.Answer.the-variants.{Accepted, Refused}
 use Rattle.protocol.specs.declared.Reply.{Reply}
@@ -17,6 +19,7 @@ use Rattle.session.specs.declared.Session.{Session}
 use Rattle.session.specs.declared.Prepared.{Prepared}
 use Rattle.session.specs.Calls.{keptBy, prepare5, prepare4}
 use Rattle.relaying.specs.declared.Hop.{Hop}
+use Rattle.routing.specs.declared.Version.the-variants as Version
 use Rattle.routing.specs.Route as route
 use Rattle.routing.specs.Route.{Asked, over5, over4, openingFor, checkInTurn}
 use Rattle.planning.specs.declared.Proxy.{Proxy}
@@ -42,6 +45,26 @@ proxyOf text p =
 
 abbrev pub proxiesOf : List ℕ → List Proxy → List route.Proxy
 proxiesOf text ps = map (proxyOf text) ps
+
+-- what stands where no proxy is given
+abbrev pub noProxy : Proxy
+noProxy =
+    record {
+      version = Version.V4;
+      host = record { from = 0; len = 0 };
+      port = Missing;
+      «proxy_auth» = false;
+      optimistic = false;
+      user = record { from = 0; len = 0 };
+      password = record { from = 0; len = 0 };
+    }
+
+-- so many of eight proxies; past the eighth none is given, and what stands there is not looked at
+abbrev pub counted : List Proxy → ℕ → List Proxy
+counted ps count = take count ps ++ replicate (count - 8) noProxy
+
+abbrev pub routeOf : List ℕ → List Proxy → ℕ → List ℕ → Port → route.Route
+routeOf text ps count host port = record { proxies = proxiesOf text (counted ps count); host = host; port = port }
 
 -- ---- preparing
 

@@ -27,8 +27,9 @@ use Rattle.sending.specs.Parts.{part}
 use Rattle.sending.specs.Due.{stillDue}
 use Rattle.starting.specs.Starting.{firstSize}
 use Rattle.starting.proofs.Laws.{first-part, first-within}
-use Rattle.turns.specs.declared.Taken.{Taken}
-use Rattle.turns.specs.Turns.{keptIn, Takes}
+use Rattle.turns.specs.Turns.{keptIn}
+use Rattle.taking.specs.declared.Taken.{Taken}
+use Rattle.taking.specs.Takes.{Takes}
 use Rattle.receiving.specs.declared.Received.{Received}
 use Rattle.receiving.specs.Received.{Ways, settled, unstarted, short, none, taken, Receives}
 use Rattle.session.specs.declared.Session.{Session}
