@@ -1,8 +1,8 @@
 //! Random cases: the original and the model against each other, and `replay` against both.
-use crate::case::{ATTEMPTS, Case, TEXT, hex, lent};
+use crate::case::{ATTEMPTS, Case, Fed, TEXT, hex, lent};
 use crate::expect::expect;
-use crate::model::Line;
 use crate::shrink::{Differs, shrink};
+use crate::tunnel::Line;
 use crate::{generate, model, rust};
 use std::collections::BTreeMap;
 use std::io::Write;

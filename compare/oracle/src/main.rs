@@ -20,6 +20,7 @@ mod shrink;
 mod speed;
 mod standin;
 mod text;
+mod tunnel;
 
 // The original names hyper's `rt`; ours stands in for it.
 extern crate self as hyper;

@@ -4,7 +4,8 @@
 use crate::case::*;
 use crate::compare::ask;
 use crate::draw::Random;
-use crate::model::{self, Line};
+use crate::model;
+use crate::tunnel::Line;
 use std::net::{IpAddr, SocketAddr};
 
 const BATCH: u64 = 20000;
