@@ -11,6 +11,7 @@ mod compare;
 mod draw;
 mod expect;
 mod generate;
+mod hold;
 mod list;
 mod load;
 mod model;
@@ -61,11 +62,9 @@ fn number(text: &str) -> Result<u64, String> {
 fn run(args: &[&str]) -> Result<bool, String> {
     match *args {
         ["self", seed, count] => Ok(compare::random(number(seed)?, number(count)?, None, None)),
-        ["random", seed, count, replay] => {
-            Ok(compare::random(number(seed)?, number(count)?, Some(replay.into()), None))
-        }
+        ["random", seed, count, replay] => Ok(compare::random(number(seed)?, number(count)?, Some(replay), None)),
         ["random", seed, count, replay, "--plant", n] => {
-            Ok(compare::random(number(seed)?, number(count)?, Some(replay.into()), Some(number(n)?)))
+            Ok(compare::random(number(seed)?, number(count)?, Some(replay), Some(number(n)?)))
         }
         ["text", seed, count] => Ok(text::random(number(seed)?, number(count)?, None, None)),
         ["text", seed, count, replay] => Ok(text::random(number(seed)?, number(count)?, Some(replay), None)),
