@@ -60,13 +60,17 @@ pub fn ask<C: Held>(program: &str, cases: &[C]) -> Vec<String> {
 
 // ---- the expected side
 
-// With `planted`, one sent byte of it is changed.
-fn expected<C: Held>(case: &C, planted: bool) -> Result<String, String> {
-    let mut line = case.expect()?;
-    if planted && let Some(last) = line.sent.last_mut() {
+// One sent byte changed, if there is one.
+fn plant(mut line: Line) -> Line {
+    if let Some(last) = line.sent.last_mut() {
         *last ^= 1;
     }
-    Ok(line.text())
+    line
+}
+
+fn expected<C: Held>(case: &C, planted: bool) -> Result<String, String> {
+    let line = case.expect()?;
+    Ok(if planted { plant(line) } else { line }.text())
 }
 
 // Where the program and the expected side first differ; a line that is not there differs too.
@@ -118,34 +122,34 @@ impl<C: Held> Run<C> {
         self.shown.push(small);
     }
 
-    // The original against the model, and the model's attempts against their bound.
-    fn check(&mut self, number: u64, case: &C) {
+    // The original against the model, and the model's attempts against their bound; answers the line if they agree.
+    fn check(&mut self, number: u64, case: &C) -> Option<Line> {
         let modelled = |small: &C| format!("model    {}", small.model().text());
         if case.miscounted().is_some() {
             self.show(number, case, &|cases| cases.iter().position(|c| c.miscounted().is_some()), &|small| {
                 [modelled(small), format!("attempts {}", small.miscounted().unwrap_or_default())]
             });
         }
-        if case.expect().is_err() {
+        let line = case.expect().ok();
+        if line.is_none() {
             self.show(number, case, &|cases| cases.iter().position(|c| c.expect().is_err()), &|small| {
                 [modelled(small), format!("rust     {}", small.expect().err().unwrap_or_default())]
             });
         }
+        line
     }
 
     // The program against both.
-    fn hold(&mut self, number: u64, case: &C, line: &str) {
+    fn hold(&mut self, number: u64, case: &C, mut wanted: Line, line: &str) {
         let Some(program) = self.program.clone() else {
             return;
         };
-        let planted = self.plant.is_some_and(|n| n <= number) && expected(case, true) != expected(case, false);
+        let planted = self.plant.is_some_and(|n| n <= number) && !wanted.sent.is_empty();
         if planted {
             self.plant = None;
+            wanted = plant(wanted);
         }
-        let Ok(text) = expected(case, planted) else {
-            return;
-        };
-        if text == line {
+        if wanted.text() == line {
             return;
         }
         self.show(number, case, &|cases| first_difference(&program, cases, planted), &|small| {
@@ -162,8 +166,9 @@ impl<C: Held> Run<C> {
         };
         for ((number, case), line) in cases.iter().zip(&lines) {
             each(case);
-            self.check(*number, case);
-            self.hold(*number, case, line);
+            if let Some(wanted) = self.check(*number, case) {
+                self.hold(*number, case, wanted, line);
+            }
         }
     }
 

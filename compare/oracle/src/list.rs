@@ -14,10 +14,10 @@ const SMALL: usize = 500;
 const ASKING: usize = 150;
 const COUNTING: usize = 60;
 
-const OPENS4: [u8; 8] = [0, 90, 0, 80, 10, 0, 0, 1];
+pub const OPENS4: [u8; 8] = [0, 90, 0, 80, 10, 0, 0, 1];
 const IPV4_REPLY: [u8; 10] = [5, 0, 0, 1, 192, 0, 2, 7, 31, 144];
-const IPV6_REPLY: [u8; 22] = [5, 0, 0, 4, 32, 1, 13, 184, 0, 0, 0, 0, 0, 0, 0, 0, 0, 0, 0, 1, 0, 80];
-const SHORT_NAME: [u8; 8] = [5, 0, 0, 3, 1, b'x', 0, 80];
+pub const IPV6_REPLY: [u8; 22] = [5, 0, 0, 4, 32, 1, 13, 184, 0, 0, 0, 0, 0, 0, 0, 0, 0, 0, 0, 1, 0, 80];
+pub const SHORT_NAME: [u8; 8] = [5, 0, 0, 3, 1, b'x', 0, 80];
 
 // Each case once.
 pub struct Kept<C> {
@@ -91,7 +91,7 @@ impl Case {
 }
 
 // The replies that open a session, for a case without damage.
-fn good(case: &Case) -> Vec<u8> {
+pub fn good(case: &Case) -> Vec<u8> {
     match (case.version, case.has(CREDENTIALS)) {
         (4, _) => OPENS4.to_vec(),
         (_, false) => [&[5, 0], &SHORT_NAME[..]].concat(),
