@@ -9,7 +9,7 @@ use crate::list::{IPV6_REPLY, Kept, OPENS4, SHORT_NAME, save};
 use std::collections::BTreeMap;
 
 // Random routes fill the list up to so many, as far as they are small.
-const CASES: usize = 640;
+const CASES: usize = 660;
 const SMALL: usize = 400;
 
 const CHAINS: [&str; 15] = [
@@ -62,7 +62,7 @@ fn cuts(list: &mut Kept<Route>) {
 
 // The border of two proxies: a piece that ends there, one around it, empty ones, too little output, the end of stream.
 fn borders(list: &mut Kept<Route>) {
-    for text in ["5 5", "5co 4", "4 4", "4 5c 4"] {
+    for text in ["5 5", "5co 4", "4 4", "4 5c 4", "4 5co", "5 5o 5o"] {
         let route = chain(text).flag(ATTEMPTS);
         let (asked, stream) = (asked(&route), good(&route).concat());
         let border = good(&route)[0].len();
@@ -136,7 +136,7 @@ fn failing(text: &str) -> Vec<Vec<u8>> {
 // At the first proxy, a middle one and the last, the next one's replies behind; the end of stream then.
 fn failures(list: &mut Kept<Route>) {
     let ahead = ["", "4", "5c", "4 5", "5 5co 4 4 5o 5 4"];
-    for last in ["5", "4", "5c"] {
+    for last in ["5", "4", "5c", "5co"] {
         for (i, reply) in failing(last).iter().enumerate() {
             // each reply behind two of the ways, all of them behind some
             for j in [i % ahead.len(), (i + 2) % ahead.len()] {
