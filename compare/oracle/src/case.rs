@@ -1,4 +1,5 @@
-//! A case of `replay`: what preparing, the start, the deliveries and the text are given, and its bytes.
+//! A case of `replay`: what preparing, the start, the deliveries and the text are given, and its bytes. What a case of
+//! `replay_route` shares with it.
 
 pub const CREDENTIALS: u8 = 1;
 pub const LOCAL_LOOKUP: u8 = 2;
@@ -40,43 +41,88 @@ pub fn lent(n: u16) -> usize {
     n.min(MOST_LENT).into()
 }
 
-fn text(out: &mut Vec<u8>, bytes: &[u8]) {
+// What the cases of a session and those of a route have in common.
+pub trait Fed: Clone + PartialEq {
+    // Output that is enough for any call.
+    const ENOUGH: u16;
+
+    fn write(&self, out: &mut Vec<u8>);
+    fn flags(&mut self) -> &mut u8;
+    fn deliveries(&mut self) -> &mut Vec<Delivery>;
+
+    fn bytes(&self) -> Vec<u8> {
+        let mut out = Vec::new();
+        self.write(&mut out);
+        out
+    }
+
+    fn flag(mut self, flags: u8) -> Self {
+        *self.flags() |= flags;
+        self
+    }
+
+    // A delivery that lends so much.
+    fn piece_lent(mut self, lent: u16, piece: &[u8]) -> Self {
+        self.deliveries().push(Delivery { lent, piece: piece.to_vec() });
+        self
+    }
+
+    fn piece(self, piece: &[u8]) -> Self {
+        self.piece_lent(Self::ENOUGH, piece)
+    }
+
+    fn each_byte(self, stream: &[u8]) -> Self {
+        stream.iter().fold(self, |case, b| case.piece(&[*b]))
+    }
+}
+
+pub fn write_text(out: &mut Vec<u8>, bytes: &[u8]) {
     let n = u16::try_from(bytes.len()).expect("a text of at most 65,535 bytes");
     out.extend(n.to_be_bytes());
     out.extend(bytes);
 }
 
-impl Case {
-    pub fn has(&self, flag: u8) -> bool {
-        self.flags & flag != 0
+pub fn write_deliveries(out: &mut Vec<u8>, deliveries: &[Delivery]) {
+    out.extend((deliveries.len() as u16).to_be_bytes());
+    for d in deliveries {
+        out.extend(d.lent.to_be_bytes());
+        write_text(out, &d.piece);
+    }
+}
+
+impl Fed for Case {
+    const ENOUGH: u16 = MOST_LENT;
+
+    fn flags(&mut self) -> &mut u8 {
+        &mut self.flags
     }
 
-    pub fn write(&self, out: &mut Vec<u8>) {
+    fn deliveries(&mut self) -> &mut Vec<Delivery> {
+        &mut self.deliveries
+    }
+
+    fn write(&self, out: &mut Vec<u8>) {
         out.extend([self.version, self.flags]);
         out.extend(self.port.to_be_bytes());
         out.extend(self.lent.to_be_bytes());
-        text(out, &self.host);
-        text(out, &self.user);
-        text(out, &self.password);
+        write_text(out, &self.host);
+        write_text(out, &self.user);
+        write_text(out, &self.password);
         out.push(self.records.len() as u8);
         for (family, address) in &self.records {
             out.push(*family);
             out.extend(address);
         }
-        out.extend((self.deliveries.len() as u16).to_be_bytes());
-        for d in &self.deliveries {
-            out.extend(d.lent.to_be_bytes());
-            text(out, &d.piece);
-        }
+        write_deliveries(out, &self.deliveries);
         if self.has(TEXT) {
             out.extend(self.text_lent.to_be_bytes());
         }
     }
+}
 
-    pub fn bytes(&self) -> Vec<u8> {
-        let mut out = Vec::new();
-        self.write(&mut out);
-        out
+impl Case {
+    pub fn has(&self, flag: u8) -> bool {
+        self.flags & flag != 0
     }
 
     // The case at the start of these bytes, if it is whole and lawful.
@@ -88,7 +134,7 @@ impl Case {
         let lent = number(&mut left)?;
         let (host, user, password) = (read_text(&mut left)?, read_text(&mut left)?, read_text(&mut left)?);
         let records = (0..byte(&mut left)?).map(|_| read_record(&mut left)).collect::<Option<_>>()?;
-        let deliveries = (0..number(&mut left)?).map(|_| read_delivery(&mut left)).collect::<Option<_>>()?;
+        let deliveries = read_deliveries(&mut left)?;
         let text_lent = if flags & TEXT != 0 { number(&mut left)? } else { 0 };
         Some(Case { version, flags, port, lent, host, user, password, records, deliveries, text_lent })
     }
@@ -100,15 +146,15 @@ fn take<'a>(left: &mut &'a [u8], n: usize) -> Option<&'a [u8]> {
     Some(taken)
 }
 
-fn byte(left: &mut &[u8]) -> Option<u8> {
+pub fn byte(left: &mut &[u8]) -> Option<u8> {
     Some(take(left, 1)?[0])
 }
 
-fn number(left: &mut &[u8]) -> Option<u16> {
+pub fn number(left: &mut &[u8]) -> Option<u16> {
     Some(u16::from_be_bytes(take(left, 2)?.try_into().ok()?))
 }
 
-fn read_text(left: &mut &[u8]) -> Option<Vec<u8>> {
+pub fn read_text(left: &mut &[u8]) -> Option<Vec<u8>> {
     let n = number(left)?;
     Some(take(left, n.into())?.to_vec())
 }
@@ -120,6 +166,10 @@ fn read_record(left: &mut &[u8]) -> Option<Record> {
 
 fn read_delivery(left: &mut &[u8]) -> Option<Delivery> {
     Some(Delivery { lent: number(left)?, piece: read_text(left)? })
+}
+
+pub fn read_deliveries(left: &mut &[u8]) -> Option<Vec<Delivery>> {
+    (0..number(left)?).map(|_| read_delivery(left)).collect()
 }
 
 // Two lower-case digits a byte, and `-` for none.

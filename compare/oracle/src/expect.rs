@@ -3,8 +3,9 @@
 //! as the RFCs have it: the model judges it. One whose v4 address announces a name is refused with 23.
 //! The original tells no bound address and no attempts: the text, its answer and the count are the model's alone.
 use crate::case::{Case, LOCAL_LOOKUP};
-use crate::model::{self, Line};
+use crate::model;
 use crate::rust::{self, Told};
+use crate::tunnel::Line;
 
 fn differs(line: &Line, told: &Told) -> bool {
     line.sent != told.sent || line.outcome != told.outcome || line.status != told.status

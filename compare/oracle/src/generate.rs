@@ -4,9 +4,11 @@ use crate::draw::{EDGES, Random};
 use crate::model;
 
 // Output lent, enough and too little: to any v5 call, to a v4 start, to a v4 delivery.
-const CALL5: Lent = (&[778, 778, 779, 1024, 1025, 2047, 2048, 2049, 65535], &[0, 1, 261, 262, 263, 776, 777, 777]);
-const START4: Lent = (&[1024, 1025, 2047, 2048, 2049, 65535], &[0, 262, 777, 778, 1022, 1023, 1023]);
-const DELIVERY4: Lent = (&[262, 262, 263, 777, 778, 1024, 2047, 2048, 2049, 65535], &[0, 1, 100, 260, 261, 261]);
+const CALL5: Lent<'static> =
+    (&[778, 778, 779, 1024, 1025, 2047, 2048, 2049, 65535], &[0, 1, 261, 262, 263, 776, 777, 777]);
+const START4: Lent<'static> = (&[1024, 1025, 2047, 2048, 2049, 65535], &[0, 262, 777, 778, 1022, 1023, 1023]);
+const DELIVERY4: Lent<'static> =
+    (&[262, 262, 263, 777, 778, 1024, 2047, 2048, 2049, 65535], &[0, 1, 100, 260, 261, 261]);
 const NAMES: [usize; 18] = [0, 1, 2, 3, 11, 50, 100, 200, 251, 252, 253, 254, 255, 256, 257, 257, 300, 1000];
 const LONG_NAMES: [usize; 6] = [1013, 1014, 1015, 1016, 1017, 5000];
 const CREDENTIALS_OF: [usize; 20] =
@@ -15,7 +17,7 @@ const CREDENTIALS_OF: [usize; 20] =
 // Text buffers lent, whatever the text's length.
 const TEXTS: [u16; 12] = [0, 1, 2, 47, 48, 260, 261, 262, 2047, 2048, 2049, 65535];
 
-type Lent = (&'static [u16], &'static [u16]);
+pub type Lent<'a> = (&'a [u16], &'a [u16]);
 
 // About half of the cases ask for the text, and about half of either for the attempts.
 pub fn case(seed: u64, number: u64) -> Case {
@@ -52,10 +54,7 @@ fn untold(r: &mut Random) -> Case {
     } else if case.version == 5 && r.once_in(16) {
         at_their_longest(r, &mut case);
     }
-    let replies = match case.version {
-        4 => reply4(r),
-        _ => replies5(r, &case),
-    };
+    let replies = replies(r, &case);
     arrives(r, &mut case, replies);
     case
 }
@@ -70,7 +69,8 @@ fn arrives(r: &mut Random, case: &mut Case, replies: Vec<u8>) {
 fn ask(r: &mut Random, case: &mut Case) {
     case.flags |= TEXT;
     if !r.once_in(4) {
-        let replies = bound_replies(r, case);
+        let fails = r.once_in(8);
+        let replies = bound_replies(r, case, fails);
         arrives(r, case, replies);
     }
     case.text_lent = u16::MAX;
@@ -128,7 +128,7 @@ fn name(r: &mut Random, version: u8) -> Vec<u8> {
     r.text(n, alphabet)
 }
 
-fn host(r: &mut Random, version: u8) -> Vec<u8> {
+pub fn host(r: &mut Random, version: u8) -> Vec<u8> {
     let mut host = match r.below(16) {
         0..=2 => r.ipv4().into_bytes(),
         3..=5 => r.ipv6().into_bytes(),
@@ -154,7 +154,7 @@ fn host(r: &mut Random, version: u8) -> Vec<u8> {
     }
 }
 
-fn credential(r: &mut Random) -> Vec<u8> {
+pub fn credential(r: &mut Random) -> Vec<u8> {
     let n = match r.below(1000) {
         0 => 65535,
         1..=5 => r.below(1000),
@@ -190,7 +190,7 @@ fn at_their_longest(r: &mut Random, case: &mut Case) {
 
 // ---- what the proxy sends
 
-fn stream(r: &mut Random, mut stream: Vec<u8>) -> Vec<u8> {
+pub fn stream(r: &mut Random, mut stream: Vec<u8>) -> Vec<u8> {
     if r.once_in(6) {
         stream = r.damaged(stream, &[0, 1, 2, 3, 4, 5, 8, 9, 0x5A, 0x5B, 0x80, 0xFF]);
     }
@@ -212,6 +212,10 @@ fn stream(r: &mut Random, mut stream: Vec<u8>) -> Vec<u8> {
     };
     stream.extend(r.bytes(behind));
     stream
+}
+
+pub fn replies(r: &mut Random, case: &Case) -> Vec<u8> {
+    if case.version == 4 { reply4(r) } else { replies5(r, case) }
 }
 
 fn reply4(r: &mut Random) -> Vec<u8> {
@@ -261,9 +265,8 @@ fn bound_name(r: &mut Random) -> Vec<u8> {
     [&[text.len() as u8], text].concat()
 }
 
-// Replies as they should be, but for a status now and then, with addresses at the edges of their texts.
-fn bound_replies(r: &mut Random, case: &Case) -> Vec<u8> {
-    let fails = r.once_in(8);
+// Replies as they should be, but for a status if they are to fail, with addresses at the edges of their texts.
+pub fn bound_replies(r: &mut Random, case: &Case, fails: bool) -> Vec<u8> {
     let port = r.port().to_be_bytes();
     if case.version == 4 {
         return [&[0, if fails { 91 } else { 90 }], &port[..], &r.four()].concat();
@@ -283,7 +286,7 @@ fn bound_replies(r: &mut Random, case: &Case) -> Vec<u8> {
 
 // ---- how it arrives
 
-fn cuts(r: &mut Random, mut stream: Vec<u8>) -> Vec<Vec<u8>> {
+pub fn cuts(r: &mut Random, mut stream: Vec<u8>) -> Vec<Vec<u8>> {
     let way = r.below(8);
     let most = 1 + r.below(40);
     let mut pieces = vec![];
@@ -303,8 +306,13 @@ fn cuts(r: &mut Random, mut stream: Vec<u8>) -> Vec<Vec<u8>> {
 
 fn deliveries(r: &mut Random, lent: Lent, stream: Vec<u8>) -> Vec<Delivery> {
     let noisy = r.once_in(4);
+    let pieces = cuts(r, stream);
+    delivered(r, lent, noisy, pieces)
+}
+
+pub fn delivered(r: &mut Random, lent: Lent, noisy: bool, pieces: Vec<Vec<u8>>) -> Vec<Delivery> {
     let mut all = vec![];
-    for piece in cuts(r, stream) {
+    for piece in pieces {
         if noisy && r.once_in(3) {
             all.push(noise(r, lent, &piece));
         }

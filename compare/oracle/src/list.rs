@@ -14,19 +14,25 @@ const SMALL: usize = 500;
 const ASKING: usize = 150;
 const COUNTING: usize = 60;
 
-const OPENS4: [u8; 8] = [0, 90, 0, 80, 10, 0, 0, 1];
+pub const OPENS4: [u8; 8] = [0, 90, 0, 80, 10, 0, 0, 1];
 const IPV4_REPLY: [u8; 10] = [5, 0, 0, 1, 192, 0, 2, 7, 31, 144];
-const IPV6_REPLY: [u8; 22] = [5, 0, 0, 4, 32, 1, 13, 184, 0, 0, 0, 0, 0, 0, 0, 0, 0, 0, 0, 1, 0, 80];
-const SHORT_NAME: [u8; 8] = [5, 0, 0, 3, 1, b'x', 0, 80];
+pub const IPV6_REPLY: [u8; 22] = [5, 0, 0, 4, 32, 1, 13, 184, 0, 0, 0, 0, 0, 0, 0, 0, 0, 0, 0, 1, 0, 80];
+pub const SHORT_NAME: [u8; 8] = [5, 0, 0, 3, 1, b'x', 0, 80];
 
-#[derive(Default)]
-struct List {
-    cases: Vec<Case>,
+// Each case once.
+pub struct Kept<C> {
+    pub cases: Vec<C>,
     seen: HashSet<Vec<u8>>,
 }
 
-impl List {
-    fn add(&mut self, case: Case) {
+type List = Kept<Case>;
+
+impl<C: Fed> Kept<C> {
+    pub fn new() -> Self {
+        Kept { cases: vec![], seen: HashSet::new() }
+    }
+
+    pub fn add(&mut self, case: C) {
         if self.seen.insert(case.bytes()) {
             self.cases.push(case);
         }
@@ -54,11 +60,6 @@ impl Case {
         self
     }
 
-    fn flag(mut self, flags: u8) -> Case {
-        self.flags |= flags;
-        self
-    }
-
     fn credentials(mut self, user: usize, password: usize) -> Case {
         (self.user, self.password) = (vec![b'u'; user], vec![b'p'; password]);
         self.flag(CREDENTIALS)
@@ -82,24 +83,6 @@ impl Case {
         self
     }
 
-    fn piece(mut self, piece: &[u8]) -> Case {
-        self.deliveries.push(Delivery { lent: 2048, piece: piece.to_vec() });
-        self
-    }
-
-    // A delivery that lends so much.
-    fn piece_lent(mut self, lent: u16, piece: &[u8]) -> Case {
-        self.deliveries.push(Delivery { lent, piece: piece.to_vec() });
-        self
-    }
-
-    fn each_byte(mut self, stream: &[u8]) -> Case {
-        for b in stream {
-            self = self.piece(&[*b]);
-        }
-        self
-    }
-
     // Asks for the text, with a buffer of this length.
     fn asks(mut self, lent: u16) -> Case {
         self.text_lent = lent;
@@ -108,7 +91,7 @@ impl Case {
 }
 
 // The replies that open a session, for a case without damage.
-fn good(case: &Case) -> Vec<u8> {
+pub fn good(case: &Case) -> Vec<u8> {
     match (case.version, case.has(CREDENTIALS)) {
         (4, _) => OPENS4.to_vec(),
         (_, false) => [&[5, 0], &SHORT_NAME[..]].concat(),
@@ -919,7 +902,7 @@ fn told_and_counted(list: &mut List) {
 }
 
 fn cases() -> Vec<Case> {
-    let mut list = List::default();
+    let mut list = List::new();
     let parts = [
         bench,
         refusals,
@@ -965,6 +948,11 @@ fn cases() -> Vec<Case> {
     list.cases
 }
 
+pub fn save(dir: &str, stdin: &[u8], stdout: &str) -> Result<(), String> {
+    let saved = fs::create_dir_all(dir).and_then(|()| fs::write(format!("{dir}/stdin"), stdin));
+    saved.and_then(|()| fs::write(format!("{dir}/stdout"), stdout)).map_err(|e| format!("{dir}: {e}"))
+}
+
 // Writes the list and its answers, and says what it holds; fails where the original and the model differ.
 pub fn write(dir: &str) -> Result<(), String> {
     let (mut stdin, mut stdout) = (vec![], String::new());
@@ -991,8 +979,7 @@ pub fn write(dir: &str) -> Result<(), String> {
     stdout += &format!("bad case at {}\n", stdin.len());
     stdin.extend([6, 8]);
     base(5).write(&mut stdin);
-    let saved = fs::create_dir_all(dir).and_then(|()| fs::write(format!("{dir}/stdin"), &stdin));
-    saved.and_then(|()| fs::write(format!("{dir}/stdout"), &stdout)).map_err(|e| format!("{dir}: {e}"))?;
+    save(dir, &stdin, &stdout)?;
     let overflows = cases.iter().filter(|case| rust::overflows(case)).count();
     println!("{} cases, {} bytes, answers {} bytes", cases.len(), stdin.len(), stdout.len());
     println!("{refused} whose start is refused with 1, {answered} that answer 22 behind it");

@@ -11,15 +11,18 @@ mod compare;
 mod draw;
 mod expect;
 mod generate;
+mod hold;
 mod list;
 mod load;
 mod model;
+mod route;
 mod rt;
 mod rust;
 mod shrink;
 mod speed;
 mod standin;
 mod text;
+mod tunnel;
 
 // The original names hyper's `rt`; ours stands in for it.
 extern crate self as hyper;
@@ -29,15 +32,27 @@ oracle self SEED COUNT                       the original against the model
 oracle random SEED COUNT REPLAY [--plant N]  and the program REPLAY against both
 oracle text SEED COUNT [REPLAY [--plant N]]  the bound address's text, the model's and REPLAY's, against Rust's Display
 oracle list DIR                              writes the kept list and its answers, DIR/stdin and DIR/stdout
+oracle route-self SEED COUNT                 routes: the original, proxy by proxy, against the model
+oracle route-random SEED COUNT PROGRAM [--plant N]  and the program PROGRAM against both
+oracle route-list DIR                        writes the kept list of routes and its answers
+oracle route-answers                         what the model says of the routes on standard input
 oracle one                                   what the original says of one case on standard input
 oracle call VERSION URI                      what its wrapper sends for a URI
 oracle load COUNT SEED [bytes]               the load of F-13 on the original
 oracle speed LOAD COUNT SEED                 and the program LOAD against it";
 
-fn one() -> Result<bool, String> {
+fn input() -> Result<Vec<u8>, String> {
     let mut bytes = vec![];
     std::io::stdin().read_to_end(&mut bytes).map_err(|e| e.to_string())?;
-    println!("{}", expect::show(&case::Case::read(&bytes).ok_or("no case")?));
+    Ok(bytes)
+}
+
+fn one() -> Result<bool, String> {
+    Ok(said(expect::show(&case::Case::read(&input()?).ok_or("no case")?)))
+}
+
+fn route_answers() -> Result<bool, String> {
+    print!("{}", route::model::answers(&input()?));
     Ok(true)
 }
 
@@ -60,11 +75,9 @@ fn number(text: &str) -> Result<u64, String> {
 fn run(args: &[&str]) -> Result<bool, String> {
     match *args {
         ["self", seed, count] => Ok(compare::random(number(seed)?, number(count)?, None, None)),
-        ["random", seed, count, replay] => {
-            Ok(compare::random(number(seed)?, number(count)?, Some(replay.into()), None))
-        }
+        ["random", seed, count, replay] => Ok(compare::random(number(seed)?, number(count)?, Some(replay), None)),
         ["random", seed, count, replay, "--plant", n] => {
-            Ok(compare::random(number(seed)?, number(count)?, Some(replay.into()), Some(number(n)?)))
+            Ok(compare::random(number(seed)?, number(count)?, Some(replay), Some(number(n)?)))
         }
         ["text", seed, count] => Ok(text::random(number(seed)?, number(count)?, None, None)),
         ["text", seed, count, replay] => Ok(text::random(number(seed)?, number(count)?, Some(replay), None)),
@@ -72,6 +85,15 @@ fn run(args: &[&str]) -> Result<bool, String> {
             Ok(text::random(number(seed)?, number(count)?, Some(replay), Some(number(n)?)))
         }
         ["list", dir] => list::write(dir).map(|()| true),
+        ["route-self", seed, count] => Ok(route::compare::random(number(seed)?, number(count)?, None, None)),
+        ["route-random", seed, count, program] => {
+            Ok(route::compare::random(number(seed)?, number(count)?, Some(program), None))
+        }
+        ["route-random", seed, count, program, "--plant", n] => {
+            Ok(route::compare::random(number(seed)?, number(count)?, Some(program), Some(number(n)?)))
+        }
+        ["route-list", dir] => route::list::write(dir).map(|()| true),
+        ["route-answers"] => route_answers(),
         ["one"] => one(),
         ["call", version, uri] => call::call(version, uri).map(said),
         ["load", count, seed] => Ok(timed_load(number(count)?, number(seed)? as u32, false)),

@@ -1,39 +1,8 @@
 //! Document 01 with requests F-1, F-4, F-7, F-8 and F-11 in plain Rust: what a case must answer, field by field.
 //! Written from their words, not from the original.
 use crate::case::*;
+use crate::tunnel::{Line, Tunnel};
 use std::net::IpAddr;
-
-// The line of `replay`. No outcome is waiting, 0 is open, any other number is the failure's. The bound address's
-// answer and text, which is empty if refused, stand in it if they are asked for; and so do the attempts, last.
-#[derive(Clone, PartialEq)]
-pub struct Line {
-    pub rests: Vec<u8>,
-    pub sent: Vec<u8>,
-    pub outcome: Option<u8>,
-    pub status: u8,
-    pub total: usize,
-    pub open: u8,
-    pub answers: Vec<u8>,
-    pub end: Option<u8>,
-    pub bound: Option<(u8, Vec<u8>)>,
-    pub attempts: Option<usize>,
-}
-
-impl Line {
-    pub fn text(&self) -> String {
-        let outcome = self.outcome.map_or("waiting".into(), |n| n.to_string());
-        let answers = self.answers.iter().map(u8::to_string).collect::<Vec<_>>().join(",");
-        let answers = if answers.is_empty() { "-".into() } else { answers };
-        let end = self.end.map_or("-".into(), |n| n.to_string());
-        let (rests, sent) = (hex(&self.rests), hex(&self.sent));
-        let bound = self.bound.as_ref().map_or(String::new(), |(answer, text)| format!(" {answer} {}", hex(text)));
-        let attempts = self.attempts.map_or(String::new(), |n| format!(" {n}"));
-        format!(
-            "{rests} {sent} {outcome} {} {} {} {answers} {end}{bound}{attempts}",
-            self.status, self.total, self.open
-        )
-    }
-}
 
 // ---- Host, Address text, Lookup
 
@@ -87,7 +56,7 @@ pub fn delivery_asks(case: &Case) -> usize {
 
 // ---- Opening v5, Opening v4: the number of the first check that refuses, else 0
 
-fn prepare(case: &Case) -> u8 {
+pub fn prepare(case: &Case) -> u8 {
     let (v5, host) = (case.version == 5, strip(&case.host));
     let text = address_text(host);
     let lookup_fails = || case.has(LOCAL_LOOKUP) && looked_up(case).is_none();
@@ -151,7 +120,7 @@ fn request4(case: &Case) -> Vec<u8> {
 
 // ---- reading replies
 
-enum Reply {
+pub enum Reply {
     Method(u8),
     Credential,
     Connect,
@@ -219,7 +188,7 @@ fn decide_v4(reply: &[u8]) -> Option<Decided> {
 
 // ---- the bound address and its text
 
-enum Bound {
+pub enum Bound {
     Four([u8; 4]),
     Six([u8; 16]),
     Name(Vec<u8>),
@@ -272,13 +241,13 @@ fn bound_text((address, port): &(Bound, u16)) -> Vec<u8> {
 
 // ---- the plain machine
 
-enum Step {
+pub enum Step {
     Send(Vec<u8>),
     Expect(Reply),
 }
 
 // What a started session sends and expects, in order.
-fn plan(case: &Case) -> Vec<Step> {
+pub fn plan(case: &Case) -> Vec<Step> {
     use Step::*;
     if case.version == 4 {
         return vec![Send(request4(case)), Expect(Reply::V4)];
@@ -294,17 +263,17 @@ fn plan(case: &Case) -> Vec<Step> {
     steps
 }
 
-struct State {
-    sent: Vec<u8>,
-    outcome: Option<u8>,
-    status: u8,
-    used: usize,
+pub struct State {
+    pub sent: Vec<u8>,
+    pub outcome: Option<u8>,
+    pub status: u8,
+    pub used: usize,
     // replies, good or bad
-    decided: usize,
+    pub decided: usize,
     bound: Option<(Bound, u16)>,
 }
 
-fn machine(steps: &[Step], list: &[u8]) -> State {
+pub fn machine(steps: &[Step], list: &[u8]) -> State {
     let mut now = State { sent: vec![], outcome: None, status: 0, used: 0, decided: 0, bound: None };
     for step in steps {
         match step {
@@ -329,60 +298,31 @@ fn machine(steps: &[Step], list: &[u8]) -> State {
     now
 }
 
-// ---- Delivery, End of stream, Tunnel, Text, Attempts
+// ---- the session, Text
 
-fn text(now: &State, lent: usize) -> (u8, Vec<u8>) {
-    match &now.bound {
-        Some(bound) if now.outcome == Some(0) => {
+// Of a session that is open: its bound address's text.
+fn text(open: Option<&State>, lent: usize) -> (u8, Vec<u8>) {
+    match open.and_then(|now| now.bound.as_ref()) {
+        None => (17, vec![]),
+        Some(bound) => {
             let text = bound_text(bound);
             if lent < text.len() { (18, vec![]) } else { (0, text) }
         }
-        _ => (17, vec![]),
     }
 }
 
 pub fn answer(case: &Case) -> Line {
     let open = opening(case);
-    let started = open == 0;
-    let steps = if started { plan(case) } else { vec![] };
-    let mut now = machine(&steps, &[]);
-    if !started {
+    let tunnel = Tunnel {
+        open,
         // what only the start refused is prepared still
-        now.outcome = (open != 1).then_some(open);
-    }
-    let (mut joined, mut rests, mut answers) = (vec![], vec![], vec![]);
-    let mut attempts = 0;
-    for d in &case.deliveries {
-        let enough = lent(d.lent) >= delivery_asks(case);
-        let (before, decided) = (now.used, now.decided);
-        if now.outcome.is_some() {
-            answers.push(16);
-        } else if !started {
-            answers.push(22);
-        } else if !enough {
-            answers.push(1);
-        } else {
-            answers.push(0);
-            joined.extend(&d.piece);
-            now = machine(&steps, &joined);
-            if !d.piece.is_empty() {
-                attempts += now.decided - decided + usize::from(now.outcome.is_none());
-            }
-        }
-        if enough {
-            rests.extend(&d.piece[now.used - before..]);
-        }
-    }
-    let end = case.has(END).then_some(match now.outcome {
-        Some(_) => 16,
-        None if started => 0,
-        None => 22,
-    });
-    if end == Some(0) {
-        now.outcome = Some(9);
-    }
-    let bound = case.has(TEXT).then(|| text(&now, lent(case.text_lent)));
-    let attempts = case.has(ATTEMPTS).then_some(attempts);
-    let (sent, outcome, status, total) = (now.sent, now.outcome, now.status, now.used);
-    Line { rests, sent, outcome, status, total, open, answers, end, bound, attempts }
+        refused: (open != 1).then_some(open),
+        plans: if open == 0 { vec![plan(case)] } else { vec![] },
+        asks: delivery_asks(case),
+        deliveries: case.deliveries.iter().map(|d| (lent(d.lent), &d.piece[..])).collect(),
+        flags: case.flags,
+    };
+    let (line, begun) = tunnel.run();
+    let open = begun.last().filter(|_| line.outcome == Some(0));
+    Line { bound: case.has(TEXT).then(|| text(open, lent(case.text_lent))), ..line }
 }

@@ -1,21 +1,22 @@
 //! The smallest case, reached by cutting, that still shows a difference.
 use crate::case::*;
 
-// What counts as small: few bytes, then plain values.
-fn size(case: &Case) -> usize {
-    let plain = |lent: u16| usize::from(lent != 2048);
-    let values = plain(case.lent)
-        + if case.has(TEXT) { plain(case.text_lent) } else { 0 }
-        + usize::from(case.port != 443)
-        + case.flags.count_ones() as usize
-        + case.records.iter().flat_map(|(_, address)| address).filter(|b| **b != 0).count()
-        + case.host.iter().filter(|b| **b != b'a').count()
-        + case.deliveries.iter().map(|d| plain(d.lent) + d.piece.iter().filter(|b| **b != 0).count()).sum::<usize>();
-    1000 * case.bytes().len() + values
+// What can be cut: by large parts left out, and by single bytes left out and values made plain.
+pub trait Cut: Fed {
+    // Few bytes, then plain values.
+    fn size(&self) -> usize;
+    fn coarse(&self, all: &mut Smaller<Self>);
+    fn fine(&self, all: &mut Smaller<Self>);
+}
+
+// How far a list of deliveries is from plain.
+pub fn plainness(deliveries: &[Delivery], enough: u16) -> usize {
+    let bytes = |piece: &[u8]| piece.iter().filter(|b| **b != 0).count();
+    deliveries.iter().map(|d| usize::from(d.lent != enough) + bytes(&d.piece)).sum()
 }
 
 // A text without so many bytes at either end: all, a half, a quarter and so on.
-fn shorter(text: &[u8]) -> Vec<Vec<u8>> {
+pub fn shorter(text: &[u8]) -> Vec<Vec<u8>> {
     let mut all = vec![];
     let mut n = text.len();
     while n > 0 {
@@ -27,7 +28,7 @@ fn shorter(text: &[u8]) -> Vec<Vec<u8>> {
 }
 
 // A text plain from a place on, or without one of its first bytes, or with that alone made plain.
-fn plainer(text: &[u8], plain: u8) -> Vec<Vec<u8>> {
+pub fn plainer(text: &[u8], plain: u8) -> Vec<Vec<u8>> {
     let from = |at: usize| [&text[..at], &vec![plain; text.len() - at]].concat();
     let one = |at: usize| {
         let (before, behind) = (&text[..at], &text[at + 1..]);
@@ -38,7 +39,7 @@ fn plainer(text: &[u8], plain: u8) -> Vec<Vec<u8>> {
 }
 
 // A list without some of its parts.
-fn fewer<T: Clone>(list: &[T]) -> Vec<Vec<T>> {
+pub fn fewer<T: Clone>(list: &[T]) -> Vec<Vec<T>> {
     let mut all = vec![];
     let mut n = list.len();
     while n > 0 {
@@ -52,74 +53,103 @@ fn fewer<T: Clone>(list: &[T]) -> Vec<Vec<T>> {
 }
 
 // Copies of a case, each changed, as far as that makes it smaller.
-struct Smaller<'a>(&'a Case, Vec<Case>);
+pub struct Smaller<'a, C>(&'a C, Vec<C>);
 
-impl Smaller<'_> {
-    fn add(&mut self, change: impl FnOnce(&mut Case)) {
+// Only the first deliveries are tried one by one.
+const TRIED: usize = 40;
+
+impl<C: Cut> Smaller<'_, C> {
+    pub fn add(&mut self, change: impl FnOnce(&mut C)) {
         let mut copy = self.0.clone();
         change(&mut copy);
-        if size(&copy) < size(self.0) {
+        if copy.size() < self.0.size() {
             self.1.push(copy);
         }
     }
 
-    // Every text of the case changed in each of these ways.
-    fn texts(&mut self, ways: impl Fn(&[u8], u8) -> Vec<Vec<u8>>) {
-        ways(&self.0.host, b'a').into_iter().for_each(|text| self.add(|c| c.host = text));
-        ways(&self.0.user, b'a').into_iter().for_each(|text| self.add(|c| c.user = text));
-        ways(&self.0.password, b'a').into_iter().for_each(|text| self.add(|c| c.password = text));
-        for i in 0..self.0.deliveries.len().min(40) {
-            let pieces = ways(&self.0.deliveries[i].piece, 0);
-            pieces.into_iter().for_each(|text| self.add(|c| c.deliveries[i].piece = text));
+    pub fn flags(&mut self, flags: &[u8]) {
+        flags.iter().for_each(|flag| self.add(|c| *c.flags() &= !flag));
+    }
+
+    // A list of deliveries changed: some left out, two in one, each piece cut.
+    pub fn coarse_deliveries(&mut self, now: &[Delivery]) {
+        fewer(now).into_iter().for_each(|list| self.add(|c| *c.deliveries() = list));
+        self.pieces(now, |piece, _| shorter(piece));
+        for i in 1..now.len().min(TRIED) {
+            self.add(|c| {
+                let next = c.deliveries().remove(i).piece;
+                c.deliveries()[i - 1].piece.extend(next);
+                c.deliveries()[i - 1].piece.truncate(65535);
+            });
         }
     }
 
-    fn sorted(mut self) -> Vec<Case> {
-        self.1.sort_by_cached_key(size);
-        self.1
+    pub fn fine_deliveries(&mut self, now: &[Delivery]) {
+        (0..now.len().min(TRIED)).for_each(|i| self.add(|c| c.deliveries()[i].lent = C::ENOUGH));
+        self.pieces(now, plainer);
+    }
+
+    fn pieces(&mut self, now: &[Delivery], ways: impl Fn(&[u8], u8) -> Vec<Vec<u8>>) {
+        for (i, d) in now.iter().enumerate().take(TRIED) {
+            ways(&d.piece, 0).into_iter().for_each(|piece| self.add(|c| c.deliveries()[i].piece = piece));
+        }
     }
 }
 
-// Large parts left out.
-fn coarse(case: &Case) -> Vec<Case> {
-    let mut all = Smaller(case, vec![]);
-    fewer(&case.deliveries).into_iter().for_each(|list| all.add(|c| c.deliveries = list));
-    fewer(&case.records).into_iter().for_each(|list| all.add(|c| c.records = list));
-    all.texts(|text, _| shorter(text));
-    // two deliveries in one
-    for i in 1..case.deliveries.len().min(40) {
-        all.add(|c| {
-            let next = c.deliveries.remove(i).piece;
-            c.deliveries[i - 1].piece.extend(next);
-            c.deliveries[i - 1].piece.truncate(65535);
-        });
+impl Case {
+    fn texts(all: &mut Smaller<Case>, ways: impl Fn(&[u8], u8) -> Vec<Vec<u8>>) {
+        let case = all.0;
+        ways(&case.host, b'a').into_iter().for_each(|text| all.add(|c| c.host = text));
+        ways(&case.user, b'a').into_iter().for_each(|text| all.add(|c| c.user = text));
+        ways(&case.password, b'a').into_iter().for_each(|text| all.add(|c| c.password = text));
     }
-    all.sorted()
 }
 
-// Single bytes left out, and values made plain.
-fn fine(case: &Case) -> Vec<Case> {
-    let mut all = Smaller(case, vec![]);
-    for flag in [CREDENTIALS, LOCAL_LOOKUP, OPTIMISTIC, PORT, END, ATTEMPTS] {
-        all.add(|c| c.flags &= !flag);
+impl Cut for Case {
+    fn size(&self) -> usize {
+        let plain = |lent: u16| usize::from(lent != Self::ENOUGH);
+        let values = plain(self.lent)
+            + if self.has(TEXT) { plain(self.text_lent) } else { 0 }
+            + usize::from(self.port != 443)
+            + self.flags.count_ones() as usize
+            + self.records.iter().flat_map(|(_, address)| address).filter(|b| **b != 0).count()
+            + self.host.iter().filter(|b| **b != b'a').count()
+            + plainness(&self.deliveries, Self::ENOUGH);
+        1000 * self.bytes().len() + values
     }
-    all.add(|c| (c.flags, c.text_lent) = (c.flags & !TEXT, 0));
-    all.add(|c| c.text_lent = 2048);
-    all.add(|c| c.port = 443);
-    all.add(|c| c.lent = 2048);
-    (0..case.records.len()).for_each(|i| all.add(|c| c.records[i].1 = [0; 16]));
-    (0..case.deliveries.len().min(40)).for_each(|i| all.add(|c| c.deliveries[i].lent = 2048));
-    all.texts(plainer);
-    all.sorted()
+
+    fn coarse(&self, all: &mut Smaller<Case>) {
+        all.coarse_deliveries(&self.deliveries);
+        fewer(&self.records).into_iter().for_each(|list| all.add(|c| c.records = list));
+        Case::texts(all, |text, _| shorter(text));
+    }
+
+    fn fine(&self, all: &mut Smaller<Case>) {
+        all.flags(&[CREDENTIALS, LOCAL_LOOKUP, OPTIMISTIC, PORT, END, ATTEMPTS]);
+        all.add(|c| (c.flags, c.text_lent) = (c.flags & !TEXT, 0));
+        all.add(|c| c.text_lent = 2048);
+        all.add(|c| c.port = 443);
+        all.add(|c| c.lent = 2048);
+        (0..self.records.len()).for_each(|i| all.add(|c| c.records[i].1 = [0; 16]));
+        all.fine_deliveries(&self.deliveries);
+        Case::texts(all, plainer);
+    }
 }
 
 // Tells the place of the first of these cases that shows the difference.
-pub type Differs<'a> = &'a dyn Fn(&[Case]) -> Option<usize>;
+pub type Differs<'a, C> = &'a dyn Fn(&[C]) -> Option<usize>;
 
-pub fn shrink(case: &Case, differs: Differs) -> Case {
+fn smaller<C: Cut>(case: &C, cut: fn(&C, &mut Smaller<C>)) -> Vec<C> {
+    let mut all = Smaller(case, vec![]);
+    cut(case, &mut all);
+    all.1.sort_by_cached_key(C::size);
+    all.1
+}
+
+pub fn shrink<C: Cut>(case: &C, differs: Differs<C>) -> C {
     let mut best = case.clone();
-    let first = |cases: Vec<Case>| cases.chunks(200).find_map(|some| differs(some).map(|at| some[at].clone()));
-    while let Some(case) = first(coarse(&best)).or_else(|| first(fine(&best))) {
+    let first = |cases: Vec<C>| cases.chunks(200).find_map(|some| differs(some).map(|at| some[at].clone()));
+    while let Some(case) = first(smaller(&best, C::coarse)).or_else(|| first(smaller(&best, C::fine))) {
         best = case;
     }
     best

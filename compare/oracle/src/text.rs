@@ -2,9 +2,10 @@
 //! `replay`'s through whole sessions. `Display` writes some IPv6 addresses with a dotted tail. These are set aside: of
 //! them the text must have no dot, and the standard library must read it back.
 use crate::case::*;
-use crate::compare::ask;
 use crate::draw::Random;
-use crate::model::{self, Line};
+use crate::hold::ask;
+use crate::model;
+use crate::tunnel::Line;
 use std::net::{IpAddr, SocketAddr};
 
 const BATCH: u64 = 20000;
