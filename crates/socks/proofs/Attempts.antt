@@ -163,12 +163,12 @@ module _ (o : Opening) where
           ∙ sym (fed-on before (d .piece))
       go false e = unlent N (client-lawful (client.kept o)) (deliveryRoom o) (fedWith before) d e .session ∙ ap fedWith (sym (append-nil before))
 
-  stands-on : (s : Session) (before : List ℕ) (d : Delivery) → StandsAt s before → StandsAt (answered s d) (joinedWith before d)
+  pub stands-on : (s : Session) (before : List ℕ) (d : Delivery) → StandsAt s before → StandsAt (answered s d) (joinedWith before d)
   stands-on s before d t =
       subst (λ (m : SideSession). Stands (deliveryRoom o) (client.kept o) (answered s d) m) (side-on before d) (step (deliveryRoom o) (client.kept o) s (fedWith before) t d .session)
 
   module _ (s : Session) (before : List ℕ) (t : StandsAt s before) (d : Delivery) where
-    tallied : s .attempts < 2 ^ 64 → answered s d .attempts ≡ (s .attempts + attemptsAt o before d) % 2 ^ 64
+    pub tallied : s .attempts < 2 ^ 64 → answered s d .attempts ≡ (s .attempts + attemptsAt o before d) % 2 ^ 64
     tallied small =
         delivery-adds (deliveryRoom o) s (t .going) (rw (t .seen) (t .waits)) (rw (t .seen) (t .exact)) small d
         ∙ ap (λ (n : ℕ). (s .attempts + n) % 2 ^ 64) (rw (t .kept, t .seen) (adds-as before d))

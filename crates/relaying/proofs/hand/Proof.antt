@@ -45,9 +45,10 @@ returns c =
     let start = c .before .before .before .before .before .before .before .before .before .before .before .before .before .before .before .before .before .before in
     let a = start .args in
     let v = c .before .before .before .before .before .before .before .before .before .receive .ensures in
-    let w = c .before .before .before .send .ensures in
-    (hands (a .t1) (a .spot) (a .bytes .now) (a .hold .now) (a .piece .now) (a .out .now) (start .pre) v (c .wrapping-add-u64 .ensures) w,
-    hands-few (a .t1) (a .spot) (a .bytes .now) (a .hold .now) (a .piece .now) (a .out .now) (start .pre) v (c .wrapping-add-u64 .ensures) w)
+    let w = c .before .before .before .send .ensures in (
+      hands (a .t1) (a .spot) (a .bytes .now) (a .hold .now) (a .piece .now) (a .out .now) (start .pre) v (c .wrapping-add-u64 .ensures) w,
+      hands-few (a .t1) (a .spot) (a .bytes .now) (a .hold .now) (a .piece .now) (a .out .now) (start .pre) v (c .wrapping-add-u64 .ensures) w,
+    )
 
 pub hand-spec : {M : Type 1} → statement M
 hand-spec =

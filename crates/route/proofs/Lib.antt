@@ -1,0 +1,9 @@
+pub mod Laws
+pub mod Refusals
+pub mod Relays
+pub mod Tunnels
+pub mod Openings
+pub mod Planned
+pub mod Tries
+pub mod Attempts
+pub mod Single

@@ -1,0 +1,70 @@
+use native.Mathlib.Omega.{arith}
+use mathlib.Core.Path.{_≡_, sym, _∙_}
+use lib.ListN.{length}
+use lib.Seq.{length-take-le}
+use borrow.Author.Tests.{not-true, not-false}
+use Rattle.session.proofs.Named.{not-bound, bound-is}
+use Rattle.route.specs.Calls.{sessionIn}
+use borrow.Author.Needs.{needs}
+use Rattle.route.proofs.Route.bound.Statement.{statement}
+use Rattle.route.proofs.Route.bound.Tie as tie
+use Rattle.route.proofs.Route.bound.Reads as reads
+use Rattle.route.proofs.Route.bound.Lts as lts
+use Rattle.bound.proofs.address.Reads as address-reads
+use Rattle.bound.proofs.unbound.Reads as unbound-reads
+use Rattle.stages.proofs.is_open.Reads as is-open-reads
+use Rattle.wire.proofs.least.Reads as least-reads
+
+hold-long : (c : tie.Start) → length (c .args .self .hold) ≡ 261
+hold-long c = search needs
+
+-- src/lib.rt:341:13
+is-open-requires : tie.Need-is-open-requires
+is-open-requires c κs = search needs
+
+-- src/lib.rt:342:13
+unbound-requires : tie.Need-unbound-requires
+unbound-requires c κs = search needs
+
+-- src/lib.rt:342:13
+returns : tie.Need-returns
+returns c = c .unbound .ensures ∙ not-bound (sessionIn (c .before .before .before .args .self)) (c .before .before .is-open .ensures) (not-true _ (c .before .if1 .taken))
+
+-- src/lib.rt:346:13
+least-requires : tie.Need-least-requires
+least-requires c κs = search needs
+
+-- src/lib.rt:347:23
+array-share-prefix-hold : tie.Need-array-share-prefix-hold
+array-share-prefix-hold c =
+    let e = c .least .ensures in
+    omega (arith, hold-long (c .before .before .before .before .before))
+
+-- src/lib.rt:347:23
+slice-aggregate-address : tie.Need-slice-aggregate-address
+slice-aggregate-address c =
+    let e = c .before .least .ensures in
+    sym (length-take-le _ _ (omega (arith, hold-long (c .before .before .before .before .before .before))))
+
+-- src/lib.rt:347:9
+address-requires : tie.Need-address-requires
+address-requires c κs = search needs
+
+-- src/lib.rt:337:5
+returns-2 : tie.Need-returns-2
+returns-2 c =
+    let start = c .before .before .before .before .before .before .before in
+    c .address .ensures ∙ bound-is (sessionIn (start .args .self)) (c .before .before .before .before .before .before .is-open .ensures) (not-false _ (c .before .before .before .before .before .if1 .left)) (c .before .before .least .ensures) (hold-long start)
+
+pub bound-spec : {M : Type 1} → statement M
+bound-spec =
+    tie.close
+    (tie.spec
+    is-open-requires
+    unbound-requires
+    returns
+    least-requires
+    array-share-prefix-hold
+    slice-aggregate-address
+    address-requires
+    returns-2)

@@ -1,0 +1,22 @@
+use Rattle.session.proofs.Deliveries.{ends-as}
+use Rattle.route.specs.Calls.{sessionIn}
+use Rattle.route.proofs.Laws.{ends-like}
+use borrow.Author.Needs.{needs}
+use Rattle.route.proofs.Route.end.Statement.{statement}
+use Rattle.route.proofs.Route.end.Tie as tie
+use Rattle.route.proofs.Route.end.Reads as reads
+use Rattle.route.proofs.Route.end.Lts as lts
+use Rattle.stages.proofs.end.Reads as end-reads
+
+-- src/lib.rt:309:13
+end-requires : tie.Need-end-requires
+end-requires c κs = search needs
+
+-- src/lib.rt:301:5
+returns : tie.Need-returns
+returns c =
+    let r = c .before .before .before .before .before .args .self in
+    ends-like r (ends-as (sessionIn r) (c .end .ensures))
+
+pub end-spec : {M : Type 1} → statement M
+end-spec = tie.close (tie.spec end-requires returns)

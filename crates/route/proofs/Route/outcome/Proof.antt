@@ -1,0 +1,19 @@
+use Rattle.route.specs.Calls.{sessionIn}
+use Rattle.session.specs.Session.{heldBytes}
+use borrow.Author.Needs.{needs}
+use Rattle.route.proofs.Route.outcome.Statement.{statement}
+use Rattle.route.proofs.Route.outcome.Tie as tie
+use Rattle.route.proofs.Route.outcome.Reads as reads
+use Rattle.route.proofs.Route.outcome.Lts as lts
+use Rattle.stages.proofs.outcome.Reads as outcome-reads
+
+-- src/lib.rt:333:9
+outcome-requires : tie.Need-outcome-requires
+outcome-requires c κs = search needs
+
+-- src/lib.rt:329:5
+returns : tie.Need-returns
+returns c = let r = c .before .args .self in c .outcome .ensures (r .bound) (heldBytes (sessionIn r))
+
+pub outcome-spec : {M : Type 1} → statement M
+outcome-spec = tie.close (tie.spec outcome-requires returns)

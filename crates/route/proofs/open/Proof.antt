@@ -1,0 +1,69 @@
+use mathlib.Core.Path.{_≡_, sym, _∙_}
+use native.Mathlib.Omega.{arith}
+use lib.ListN.{length}
+use Rattle.route.proofs.Laws.{size-has, opens-refused, opens-sized}
+use borrow.Author.Needs.{needs}
+use Rattle.route.proofs.open.Statement.{statement}
+use Rattle.route.proofs.open.Tie as tie
+use Rattle.route.proofs.open.Reads as reads
+use Rattle.route.proofs.open.Lts as lts
+use Rattle.route.proofs.open_sized.Reads as open-sized-reads
+use Rattle.route.proofs.refuse.Reads as refuse-reads
+use Rattle.route.proofs.size_answer.Reads as size-answer-reads
+
+eight : (c : tie.Start) → length (c .args .proxies) ≡ 8
+eight c = search needs
+
+-- src/lib.rt:211:9
+size-answer-requires : tie.Need-size-answer-requires
+size-answer-requires c κs = search needs
+
+-- src/lib.rt:213:74
+enum-told : tie.Need-enum-told
+enum-told c = search needs
+
+-- src/lib.rt:213:29
+open-sized-requires : tie.Need-open-sized-requires
+open-sized-requires c κs =
+    let a = c .before .before .before .before .before .before .before .args in
+    let (some, (m, room)) = size-has (a .count) (length (a .out .now)) (sym (c .before .before .before .size-answer .ensures) ∙ c .before .enum-told .given .1) in
+    (some, (m, omega arith))
+
+-- src/lib.rt:214:25
+enum-known-answer : tie.Need-enum-known-answer
+enum-known-answer c = search needs
+
+-- src/lib.rt:214:35
+refuse-requires : tie.Need-refuse-requires
+refuse-requires c κs = search needs
+
+-- src/lib.rt:201:1
+same-length : tie.Need-same-length
+same-length c = search needs
+
+-- src/lib.rt:201:1
+returns : tie.Need-returns
+returns c =
+    let start = c .before .before .before .before .before .before .before .before .before .before in
+    let a = start .args in
+    opens-sized (a .text .now) (a .proxies) (eight start) (a .count) (a .host .now) (a .port) (a .out .now) (c .before .before .before .before .before .before .size-answer .ensures) (c .before .before .before .before .enum-told .given .1) (c .before .before .open-sized .ensures)
+
+-- src/lib.rt:201:1
+returns-2 : tie.Need-returns-2
+returns-2 c =
+    let start = c .before .before .before .before .before .before .before .before in
+    let a = start .args in
+    opens-refused (a .text .now) (a .proxies) (eight start) (a .count) (a .host .now) (a .port) (a .out .now) (c .before .before .before .before .size-answer .ensures) (c .before .before .answer .given .1) (c .refuse .ensures)
+
+pub open-spec : {M : Type 1} → statement M
+open-spec =
+    tie.close
+    (tie.spec
+    size-answer-requires
+    enum-told
+    open-sized-requires
+    enum-known-answer
+    refuse-requires
+    same-length
+    returns
+    returns-2)

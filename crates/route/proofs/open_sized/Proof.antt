@@ -1,0 +1,86 @@
+use native.Mathlib.Omega.{arith}
+use mathlib.Core.Path.{_≡_, _∙_}
+use lib.ListN.{length, take, length-map}
+use lib.Seq.{length-take-le}
+use Rattle.planning.specs.Plan.{proxyOf, proxiesOf}
+use Rattle.route.proofs.Planned.{planned-from, opens-accepted, opens-not}
+use borrow.Author.Needs.{needs}
+use Rattle.route.proofs.open_sized.Statement.{statement}
+use Rattle.route.proofs.open_sized.Tie as tie
+use Rattle.route.proofs.open_sized.Reads as reads
+use Rattle.route.proofs.open_sized.Lts as lts
+use Rattle.planning.proofs.plan.Reads as plan-reads
+use Rattle.route.proofs.begun.Reads as begun-reads
+use Rattle.route.proofs.no_hops.Reads as no-hops-reads
+use Rattle.route.proofs.refuse.Reads as refuse-reads
+
+eight : (c : tie.Start) → length (c .args .proxies) ≡ 8
+eight c = search needs
+
+row : (c : tie.Start) → length (proxiesOf (c .args .text .now) (take (c .args .count) (c .args .proxies))) ≡ c .args .count
+row c =
+    let (some, (m, room)) = c .pre in
+    length-map (take (c .args .count) (c .args .proxies)) (proxyOf (c .args .text .now)) ∙ length-take-le (c .args .count) (c .args .proxies) (omega (arith, eight c, m))
+
+-- src/lib.rt:189:61
+no-hops-requires : tie.Need-no-hops-requires
+no-hops-requires c κs = search needs
+
+-- src/lib.rt:189:72
+slice-aggregate-plan : tie.Need-slice-aggregate-plan
+slice-aggregate-plan c = search needs
+
+-- src/lib.rt:189:9
+plan-requires : tie.Need-plan-requires
+plan-requires c κs = search needs
+
+-- src/lib.rt:193:48
+enum-told : tie.Need-enum-told
+enum-told c = search needs
+
+-- src/lib.rt:193:29
+begun-requires : tie.Need-begun-requires
+begun-requires c κs = search needs
+
+-- src/lib.rt:194:25
+enum-known-answer : tie.Need-enum-known-answer
+enum-known-answer c = search needs
+
+-- src/lib.rt:194:35
+refuse-requires : tie.Need-refuse-requires
+refuse-requires c κs = search needs
+
+-- src/lib.rt:177:1
+same-length : tie.Need-same-length
+same-length c = search needs
+
+-- src/lib.rt:177:1
+returns : tie.Need-returns
+returns c =
+    let start = c .before .before .before .before .before .before .before .before .before .before .before .before .before .before in
+    let a = start .args in
+    let (some, (m, room)) = start .pre in
+    opens-accepted (proxiesOf (a .text .now) (take (a .count) (a .proxies))) (a .host .now) (a .port) (row start) some (a .out .now) (planned-from (c .before .before .before .before .before .before .before .before .before .before .no-hops .ensures) (c .before .before .before .before .before .before .before .before .plan .ensures)) (c .before .before .before .before .enum-told .given .1) (c .before .before .begun .ensures)
+
+-- src/lib.rt:177:1
+returns-2 : tie.Need-returns-2
+returns-2 c =
+    let start = c .before .before .before .before .before .before .before .before .before .before .before .before in
+    let a = start .args in
+    let (some, (m, room)) = start .pre in
+    opens-not (proxiesOf (a .text .now) (take (a .count) (a .proxies))) (a .host .now) (a .port) (row start) some (a .out .now) (planned-from (c .before .before .before .before .before .before .before .before .no-hops .ensures) (c .before .before .before .before .before .before .plan .ensures)) (c .before .before .answer .given .1) (c .refuse .ensures)
+
+pub open-sized-spec : {M : Type 1} → statement M
+open-sized-spec =
+    tie.close
+    (tie.spec
+    no-hops-requires
+    slice-aggregate-plan
+    plan-requires
+    enum-told
+    begun-requires
+    enum-known-answer
+    refuse-requires
+    same-length
+    returns
+    returns-2)

@@ -1,0 +1,17 @@
+use borrow.Author.Needs.{needs}
+use Rattle.route.proofs.refuse.Statement.{statement}
+use Rattle.route.proofs.refuse.Tie as tie
+use Rattle.route.proofs.refuse.Reads as reads
+use Rattle.route.proofs.refuse.Lts as lts
+use Rattle.route.proofs.no_hops.Reads as no-hops-reads
+
+-- src/lib.rt:114:19
+no-hops-requires : tie.Need-no-hops-requires
+no-hops-requires c κs = search needs
+
+-- src/lib.rt:97:1
+returns : tie.Need-returns
+returns c = rw (c .no-hops .ensures)
+
+pub refuse-spec : {M : Type 1} → statement M
+refuse-spec = tie.close (tie.spec no-hops-requires returns)
