@@ -1,7 +1,7 @@
 use borrow.Author.Tests.{lt-ltb, le-ltb}
 use borrow.Author.Needs.{needs}
-use Rattle.course.proofs.rest_of.Statement.{statement}
-use Rattle.course.proofs.rest_of.Tie as tie
+use Rattle.tally.proofs.rest_of.Statement.{statement}
+use Rattle.tally.proofs.rest_of.Tie as tie
 
 slice-aggregate-result : tie.Need-slice-aggregate-result
 slice-aggregate-result c = search needs

@@ -4,8 +4,8 @@ use lib.Seq.{length-take-le}
 use mathlib.Core.Path.{sym}
 use native.Mathlib.Omega.{arith}
 use borrow.Author.Needs.{needs}
-use Rattle.course.proofs.keep_sent.Statement.{statement}
-use Rattle.course.proofs.keep_sent.Tie as tie
+use Rattle.tally.proofs.keep_sent.Statement.{statement}
+use Rattle.tally.proofs.keep_sent.Tie as tie
 
 sub-if1 : tie.Need-sub-if1
 sub-if1 c = search needs

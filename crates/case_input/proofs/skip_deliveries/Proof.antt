@@ -2,8 +2,8 @@ use lib.ListN.{length}
 use mathlib.Core.Path.{_≡_}
 use Rattle.input.specs.Inputs.{Unread}
 use borrow.Author.Needs.{needs}
-use Rattle.replay.proofs.skip_deliveries.Statement.{statement}
-use Rattle.replay.proofs.skip_deliveries.Tie as tie
+use Rattle.case_input.proofs.skip_deliveries.Statement.{statement}
+use Rattle.case_input.proofs.skip_deliveries.Tie as tie
 
 abbrev Inv-loop : tie.InvT-loop
 Inv-loop count buffer₀ input₀ left₀ buffer input left = (length buffer ≡ length buffer₀) × Unread input (length buffer)

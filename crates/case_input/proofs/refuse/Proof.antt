@@ -1,6 +1,6 @@
 use borrow.Author.Needs.{needs}
-use Rattle.replay.proofs.refuse.Statement.{statement}
-use Rattle.replay.proofs.refuse.Tie as tie
+use Rattle.case_input.proofs.refuse.Statement.{statement}
+use Rattle.case_input.proofs.refuse.Tie as tie
 
 slice-aggregate-put-notice : tie.Need-slice-aggregate-put-notice
 slice-aggregate-put-notice c = search needs
