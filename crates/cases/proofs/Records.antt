@@ -3,15 +3,14 @@ use Prim.Native.Nat.{ℕ, zero, suc, _+_, _*_, _-_, _≤_, _<_}
 use native.Mathlib.Omega.{arith}
 use native.Mathlib.Numerals.{add-one}
 use mathlib.Core.Path.{_≡_, ap}
-use mathlib.Core.Bool.{Bool, true, false, cond}
-use lib.Dec.{ltb}
+use mathlib.Core.Bool.{Bool, true, false}
 use mathlib.Core.List.{List, [], _∷_, _++_}
-use lib.ListN.{length, getD, take, drop, set, length-drop}
+use lib.ListN.{length, getD, take, drop, set, length-take, length-drop}
 use lib.Seq.{take-all, take-suc, take-suc-set, getD-drop}
 use borrow.Author.Tests.{lt-ltb, le-ltb}
 use Rattle.protocol.specs.declared.Record.{Record}
 use Rattle.cases.specs.declared.heads.Head.{Head}
-use Rattle.cases.specs.Cases.{numberAt, hostEnd, userEnd, passwordEnd, headOf, isVersion, isFamily, knownFamilies, isGood, recordAt, recordsAt, restOf}
+use Rattle.cases.specs.Cases.{numberAt, hostEnd, userEnd, passwordEnd, headOf, isVersion, isFamily, knownFamilies, isGood, recordAt, recordsAt, deliverySize, pieceOf}
 
 -- the places, from the numbers as they are read
 pub head : (s : List ℕ) (h u p n : ℕ) → h ≡ numberAt s 6 → u ≡ numberAt s (8 + h) → p ≡ numberAt s (8 + h + 2 + u) → n ≡ getD s (8 + h + 2 + u + 2 + p) 0
@@ -75,10 +74,8 @@ pub record-more : (l : List Record) (s : List ℕ) (from i : ℕ) (r : Record) �
     → take (i + 1) (set l i r) ≡ recordsAt s from (i + 1)
 record-more l s from i r v h e = rw (add-one i, take-suc-set l i r h, records-more, v, e)
 
--- a rest is no longer than its piece
-pub rest-short : (room lent : ℕ) (piece : List ℕ) (used : ℕ) → length (restOf room lent piece used) ≤ length piece
-rest-short room lent piece used = go (ltb lent room)
-  where
-    go : (t : Bool) → length (cond t [] (drop used piece)) ≤ length piece
-    go true = omega arith
-    go false = simp length-drop (omega arith)
+-- the bytes of a delivery behind its numbers
+pub piece-is : (s : List ℕ) (n : ℕ) → n ≡ deliverySize s → n ≤ 65539 → (take (n - 4) (drop 4 s) ≡ pieceOf s) × (length (take (n - 4) (drop 4 s)) ≤ 65535)
+piece-is s n e l =
+    let m : n - 4 ≡ numberAt s 2 = omega arith in
+    (rw m, simp length-take (omega arith))

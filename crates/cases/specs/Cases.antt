@@ -103,21 +103,20 @@ recordsAt s at (suc n) = recordAt s at ∷ recordsAt s (at + 17) n
 
 -- ---- a delivery
 
--- the length of the output lent; above 2048 counts as 2048
-abbrev pub lentOf : ℕ → ℕ
-lentOf n = cond (ltb 2048 n) 2048 n
+-- the length of the output lent; above the most that can be lent it counts as that
+abbrev pub lentOf : ℕ → ℕ → ℕ
+lentOf most n = cond (ltb most n) most n
 
 -- the length lent, the length of the piece, and the piece
 abbrev pub deliverySize : List ℕ → ℕ
 deliverySize s = 4 + numberAt s 2
 
+abbrev pub pieceOf : List ℕ → List ℕ
+pieceOf s = take (numberAt s 2) (drop 4 s)
+
 -- the output that a delivery asks, by the version
 abbrev pub roomOf : ℕ → ℕ
 roomOf version = cond (eqb version 4) 262 778
-
--- what a delivery leaves of its piece; one that lends less output than it asks has no rest
-abbrev pub restOf : ℕ → ℕ → List ℕ → ℕ → List ℕ
-restOf room lent piece used = cond (ltb lent room) [] (drop used piece)
 
 -- ---- behind the deliveries
 
@@ -126,4 +125,4 @@ abbrev pub behindSize : ℕ → ℕ
 behindSize flags = cond (asksText flags) 2 0
 
 abbrev pub textLent : ℕ → List ℕ → ℕ
-textLent flags s = cond (asksText flags) (lentOf (numberAt s 0)) 0
+textLent flags s = cond (asksText flags) (lentOf 2048 (numberAt s 0)) 0

@@ -3,7 +3,7 @@ ghost use mathlib.Core.Path.{_≡_};
 ghost use Prim.Native.Nat.{_+_, _*_, _≤_, _<_};
 ghost use mathlib.Core.Bool.{true};
 ghost use lib.ListN.{length, getD, take, drop};
-ghost use Rattle.cases.specs.Cases.{numberAt, headOf, Ordered, isVersion, isFamily, knownFamilies, isGood, flag, configOf, portOf, ends, familyOf, recordAt, recordsAt, lentOf, deliverySize, roomOf, asksText, asksAttempts, behindSize, textLent};
+ghost use Rattle.cases.specs.Cases.{numberAt, headOf, Ordered, isVersion, isFamily, knownFamilies, isGood, flag, configOf, portOf, ends, familyOf, recordAt, recordsAt, lentOf, deliverySize, pieceOf, roomOf, asksText, asksAttempts, behindSize, textLent};
 use protocol::Family;
 use protocol::Port;
 use protocol::Record;
@@ -26,7 +26,7 @@ pub fn byte_at(s: &[u8], at: usize) -> u8
 }
 
 pub fn number_at(s: &[u8], at: usize) -> u16
-    requires { ⌜ at < 1000000 ⌝ }
+    requires { ⌜ at < 10000000 ⌝ }
     ensures { λ r. ⌜ r ≡ numberAt (now (s .entry)) at ⌝ }
 {
     wide(byte_at(s, at)) * 256 + wide(byte_at(s, at + 1))
@@ -102,7 +102,7 @@ pub fn is_good(s: &[u8], head: Head) -> bool
     known_families(s, head.password + 1, head.count)
 }
 
-fn has(flags: u8, bit: u8) -> bool
+pub fn has(flags: u8, bit: u8) -> bool
     requires { ⌜ 0 < bit ⌝ }
     ensures { λ r. ⌜ r ≡ flag flags bit ⌝ }
 {
@@ -198,14 +198,23 @@ pub fn records_at(s: &[u8], from: usize, count: usize) -> [Record; 8]
     list
 }
 
-// How much of the output is lent.
-pub fn lent(number: u16) -> usize
-    ensures { λ r. ⌜ (r ≡ lentOf number) × (r ≤ 2048) ⌝ }
+// How much of an output is lent, of which so much can be.
+pub fn lent(number: u16, most: usize) -> usize
+    ensures { λ r. ⌜ (r ≡ lentOf most number) × (r ≤ most) ⌝ }
 {
-    if number > 2048 {
-        return 2048;
+    let n = number as usize;
+    if n > most {
+        return most;
     }
-    number as usize
+    n
+}
+
+// The part of an output that is lent.
+pub fn lent_part(out: &mut [u8], number: u16) -> &mut [u8]
+    ensures { λ r. ⌜ now r ≡ take (lentOf (length (now (out .entry))) number) (now (out .entry)) ⌝ }
+{
+    let n = lent(number, out.len());
+    &mut out[..n]
 }
 
 // How many bytes a delivery has: two numbers, and the piece.
@@ -213,6 +222,15 @@ pub fn delivery_size(s: &[u8]) -> usize
     ensures { λ r. ⌜ (r ≡ deliverySize (now (s .entry))) × ((4 ≤ r) × (r ≤ 65539)) ⌝ }
 {
     4 + number_at(s, 2) as usize
+}
+
+pub fn piece(s: &[u8]) -> &[u8]
+    requires { ⌜ deliverySize (now s) ≤ length (now s) ⌝ }
+    ensures { λ r. ⌜ (now r ≡ pieceOf (now (s .entry))) × (length (now r) ≤ 65535) ⌝ }
+{
+    let from = 4;
+    let to = delivery_size(s);
+    &s[from..to]
 }
 
 // The output that a delivery asks, by the version.
@@ -237,7 +255,7 @@ pub fn text_lent(flags: u8, s: &[u8]) -> usize
     ensures { λ r. ⌜ (r ≡ textLent flags (now (s .entry))) × (r ≤ 2048) ⌝ }
 {
     if asks_text(flags) {
-        return lent(number_at(s, 0));
+        return lent(number_at(s, 0), 2048);
     }
     0
 }

@@ -8,5 +8,5 @@ use Rattle.protocol.specs.Numbers.{answerNumber}
 -- end of stream is a call of its own, if it comes at all
 abbrev pub lastOf : Session → Bool → Last
 lastOf s ends =
-    cond ends (record { session = end s .session; ended = true; answer = answerNumber (end s .answer) })
-    (record { session = s; ended = false; answer = 0 })
+    cond ends (record { session = end s .session; end = record { ended = true; answer = answerNumber (end s .answer) } })
+    (record { session = s; end = record { ended = false; answer = 0 } })

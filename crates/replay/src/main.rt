@@ -5,49 +5,28 @@ ghost use Prim.Native.Nat.{_+_, _≤_};
 ghost use lib.ListN.{length};
 ghost use Rattle.input.specs.Inputs.{Unread};
 ghost use Rattle.lines.specs.Lines.{Within};
-ghost use Rattle.course.specs.Bounds.{Keeps, Rooms};
+ghost use Rattle.tally.specs.Bounds.{Fresh, Keeps, Rooms};
 ghost use Rattle.cases.specs.Cases.{Ordered};
-ghost use Rattle.replay.specs.Deliveries.{Next, Lends};
+ghost use Rattle.replay.specs.Lent.{Lends};
+use case_input::Passed;
+use case_input::Plan;
+use case_input::Stand;
+use case_input::refuse;
+use case_input::skip_deliveries;
+use case_input::unread;
+use case_input::want_delivery;
 use cases::heads;
 use cases::heads::Head;
-use course::Close;
 use course::Course;
-use course::SENT;
 use input::Input;
-use libc::STDOUT_FILENO;
 use lines::Line;
+use tally::KEPT;
+use tally::TEXT;
 
 // More than all that stands before the deliveries of a case: three texts of 65,535 bytes and 255 records.
 const OPENING: usize = 201000;
 
-// The largest delivery.
-const DELIVERY: usize = 65539;
-
 const INPUT: usize = 524288;
-
-const TEXT: usize = 327680;
-
-// What a session sends, and the answers of the most deliveries.
-const KEPT: usize = 73727;
-
-// Between two cases: how much text there is to be written, and whether to read on.
-struct Stand {
-    input: Input,
-    end: usize,
-    more: bool,
-}
-
-// A delivery that is unread, and its size; 0 if it is not whole.
-struct Found {
-    input: Input,
-    size: usize,
-}
-
-// How far the deliveries of a case were read, and whether they were all there.
-struct Passed {
-    input: Input,
-    whole: bool,
-}
 
 // What stands behind the deliveries of a case, read: how much of a buffer is lent to the text, and whether it was all there.
 struct Behind {
@@ -62,26 +41,6 @@ struct Done {
     course: Course,
     lent: usize,
     whole: bool,
-}
-
-// How many deliveries a case has, and its flags.
-struct Plan {
-    count: usize,
-    flags: u8,
-}
-
-fn want_delivery(from: Input, buffer: &mut [u8]) -> Found
-    requires { ⌜ Unread from (length (now buffer)) ⌝ }
-    ensures { λ r. ⌜ Next r (now (buffer .exit)) ⌝ }
-{
-    let input = input::want(from, buffer, DELIVERY);
-    let at = input.at;
-    let end = input.end;
-    let n = heads::delivery_size(&buffer[at..end]);
-    if end - at < n {
-        return Found { input, size: 0 };
-    }
-    Found { input, size: n }
 }
 
 fn take_behind(from: Input, flags: u8, buffer: &mut [u8]) -> Behind
@@ -104,28 +63,6 @@ fn take_behind(from: Input, flags: u8, buffer: &mut [u8]) -> Behind
         lent: heads::text_lent(flags, &buffer[at..end]),
         whole: true,
     }
-}
-
-// Passes over deliveries.
-fn skip_deliveries(from: Input, count: usize, buffer: &mut [u8]) -> Passed
-    requires { ⌜ Unread from (length (now buffer)) ⌝ }
-    ensures { λ r. ⌜ Unread (r .input) (length (now (buffer .entry))) ⌝ }
-{
-    let mut input = from;
-    let mut left = count;
-    while left > 0 {
-        let found = want_delivery(input, buffer);
-        input = found.input;
-        if found.size == 0 {
-            return Passed {
-                input,
-                whole: false,
-            };
-        }
-        input = input::past(input, found.size);
-        left -= 1;
-    }
-    Passed { input, whole: true }
 }
 
 // Passes over deliveries and what stands behind them.
@@ -153,13 +90,13 @@ fn take_deliveries(
     kept: &mut [u8],
     text: &mut [u8],
 ) -> Done
-    requires { ⌜ (Unread from (length (now buffer))) × ((Keeps start (length (now text))) × ((count ≤ 65535) × (Rooms (length (now kept)) (length (now text))))) ⌝ }
-    ensures { λ r. ⌜ (Unread (r .input) (length (now (buffer .entry)))) × ((Keeps (r .course) (length (now (text .entry)))) × (r .lent ≤ 2048)) ⌝ }
+    requires { ⌜ (Unread from (length (now buffer))) × ((Keeps (start .tally) (length (now text))) × ((start .tally .count + count ≤ 65535) × (Rooms (length (now kept)) (length (now text))))) ⌝ }
+    ensures { λ r. ⌜ (Unread (r .input) (length (now (buffer .entry)))) × ((Keeps (r .course .tally) (length (now (text .entry)))) × (r .lent ≤ 2048)) ⌝ }
 {
     let mut input = from;
     let mut course = start;
-    let mut i = 0;
-    while i < count {
+    let mut left = count;
+    while left > 0 {
         let found = want_delivery(input, buffer);
         input = found.input;
         if found.size == 0 {
@@ -170,30 +107,15 @@ fn take_deliveries(
                 whole: false,
             };
         }
-        let at = input.at;
-        let end = input.end;
-        course = course::take_delivery(course, &buffer[at..end], kept, text);
-        kept[SENT + i] = course.answer;
+        course = course::take_delivery(course, unread(input, buffer), kept, text);
         input = input::past(input, found.size);
-        i += 1;
+        left -= 1;
     }
     Done {
         input,
         course,
         lent: 0,
         whole: true,
-    }
-}
-
-// A case that is bad: nothing is read on.
-fn refuse(input: Input, line: Line, offset: u64, text: &mut [u8]) -> Stand
-    requires { ⌜ (Within line (length (now text))) × (64 ≤ length (now text)) ⌝ }
-    ensures { λ r. ⌜ (r .input ≡ input) × (r .end ≤ length (now (text .entry))) ⌝ }
-{
-    Stand {
-        input,
-        end: lines::put_notice(line, b"bad case at ", offset, text),
-        more: false,
     }
 }
 
@@ -236,7 +158,7 @@ struct Begun {
 
 fn open(s: &[u8], head: Head, line: Line, kept: &mut [u8]) -> Begun
     requires { ⌜ (Ordered head) × ((head .count ≤ 8) × ((head .size ≤ length (now s)) × (8192 ≤ length (now kept)))) ⌝ }
-    ensures { λ r. ⌜ (r .course .line ≡ line) × ((r .course .sent ≤ 8192) × (r .plan .count ≤ 65535)) ⌝ }
+    ensures { λ r. ⌜ (Fresh line (r .course .tally)) × (r .plan .count ≤ 65535) ⌝ }
 {
     let course = course::start(s, head, line, kept);
     let plan = plan_of(s, head);
@@ -245,8 +167,8 @@ fn open(s: &[u8], head: Head, line: Line, kept: &mut [u8]) -> Begun
 
 // An opened case with its deliveries and what stands behind them.
 fn take_rest(from: Input, begun: Begun, buffer: &mut [u8], kept: &mut [u8], text: &mut [u8]) -> Done
-    requires { ⌜ (Unread from (length (now buffer))) × ((Keeps (begun .course) (length (now text))) × ((begun .plan .count ≤ 65535) × (Rooms (length (now kept)) (length (now text))))) ⌝ }
-    ensures { λ r. ⌜ (Unread (r .input) (length (now (buffer .entry)))) × ((Keeps (r .course) (length (now (text .entry)))) × (r .lent ≤ 2048)) ⌝ }
+    requires { ⌜ (Unread from (length (now buffer))) × ((Keeps (begun .course .tally) (length (now text))) × ((begun .course .tally .count + begun .plan .count ≤ 65535) × (Rooms (length (now kept)) (length (now text))))) ⌝ }
+    ensures { λ r. ⌜ (Unread (r .input) (length (now (buffer .entry)))) × ((Keeps (r .course .tally) (length (now (text .entry)))) × (r .lent ≤ 2048)) ⌝ }
 {
     let start = begun.course;
     let plan = begun.plan;
@@ -265,30 +187,19 @@ fn take_rest(from: Input, begun: Begun, buffer: &mut [u8], kept: &mut [u8], text
     }
 }
 
-// The line of a case that began so at an offset.
-fn close(done: Done, begun: Begun, offset: u64, kept: &[u8], text: &mut [u8]) -> Stand
-    requires { ⌜ (Keeps (done .course) (length (now text))) × ((done .lent ≤ 2048) × ((begun .plan .count ≤ 65535) × (Rooms (length (now kept)) (length (now text))))) ⌝ }
+// The line of a case with such flags at an offset.
+fn close(done: Done, flags: u8, offset: u64, kept: &[u8], text: &mut [u8]) -> Stand
+    requires { ⌜ (Keeps (done .course .tally) (length (now text))) × ((done .lent ≤ 2048) × (Rooms (length (now kept)) (length (now text)))) ⌝ }
     ensures { λ r. ⌜ (r .input ≡ done .input) × (r .end ≤ length (now (text .entry))) ⌝ }
 {
     let input = done.input;
     let course = done.course;
-    let plan = begun.plan;
     if !done.whole {
-        return refuse(input, course.line, offset, text);
+        return refuse(input, course.tally.line, offset, text);
     }
     Stand {
         input,
-        end: course::finish(
-            course,
-            Close {
-                opened: begun.course.answer,
-                flags: plan.flags,
-                count: plan.count,
-                lent: done.lent,
-            },
-            kept,
-            text,
-        ),
+        end: course::finish(course, flags, done.lent, kept, text),
         more: true,
     }
 }
@@ -309,7 +220,7 @@ fn run_case(
     let begun = open(&buffer[at..stop], head, line, kept);
     let behind = input::past(input, head.size);
     let done = take_rest(behind, begun, buffer, kept, text);
-    close(done, begun, input.offset, kept, text)
+    close(done, begun.plan.flags, input.offset, kept, text)
 }
 
 // What stands before the deliveries of a case, and whether it is good.
@@ -358,18 +269,13 @@ fn turn(stand: Stand, buffer: &mut [u8], kept: &mut [u8], text: &mut [u8]) -> St
 fn run(buffer: &mut [u8], kept: &mut [u8], text: &mut [u8])
     requires { ⌜ Rooms (length (now kept)) (length (now text)) ⌝ }
 {
-    let mut stand = Stand {
-        input: input::new(),
-        end: 0,
-        more: true,
-    };
+    let mut stand = case_input::begin();
     let mut turns = u64::MAX;
     while turns > 0 {
         stand = turn(stand, buffer, kept, text);
         turns = input::turns_left(turns, stand.more);
     }
-    let end = stand.end;
-    io::write_all(STDOUT_FILENO, &text[..end]);
+    case_input::finish(stand, text);
 }
 
 fn main() {

@@ -1,18 +1,10 @@
 use mathlib.Core.Path.{sym}
-use Prim.Native.Nat.{ℕ, _≤_}
-use native.Mathlib.Omega.{arith}
-use lib.ListN.{length, replicate, length-replicate}
-use Rattle.course.specs.Bounds.{Rooms}
+use Prim.Native.Nat.{ℕ}
+use lib.ListN.{length-replicate}
+use Rattle.tally.proofs.Laws.{rooms}
 use borrow.Author.Needs.{needs}
 use Rattle.replay.proofs.main.Statement.{statement}
 use Rattle.replay.proofs.main.Tie as tie
-
--- the lengths by their law: to count 900,000 zeros takes seconds
-rooms-of : (k n : ℕ) → 73727 ≤ k → 300000 ≤ n → Rooms (length (replicate {A = ℕ} k 0)) (length (replicate {A = ℕ} n 0))
-rooms-of k n p q = record { each = rw length-replicate p; long = rw length-replicate q }
-
-rooms : Rooms (length (replicate {A = ℕ} 73727 0)) (length (replicate {A = ℕ} 327680 0))
-rooms = rooms-of 73727 327680 (omega arith) (omega arith)
 
 slice-aggregate-run : tie.Need-slice-aggregate-run
 slice-aggregate-run c = sym (length-replicate {A = ℕ} 524288 0)

@@ -1,9 +1,8 @@
 use Prim.Native.Nat.{_≤_}
-use mathlib.Core.Path.{_≡_, sym}
+use mathlib.Core.Path.{_≡_}
 use lib.ListN.{length}
-use lib.Seq.{length-take-le}
 use Rattle.input.specs.Inputs.{Unread}
-use Rattle.replay.proofs.Laws.{rooms-as}
+use Rattle.tally.proofs.Laws.{rooms-as}
 use borrow.Author.Needs.{needs}
 use Rattle.replay.proofs.run.Statement.{statement}
 use Rattle.replay.proofs.run.Tie as tie
@@ -14,8 +13,8 @@ Inv-loop buffer₀ kept₀ text₀ stand₀ turns₀ buffer kept text stand turn
 abbrev μ-loop : tie.MeasureT-loop
 μ-loop buffer₀ kept₀ text₀ stand₀ turns₀ buffer kept text stand turns = turns
 
-new-requires : tie.Need-new-requires Inv-loop μ-loop
-new-requires c κs = search needs
+begin-requires : tie.Need-begin-requires Inv-loop μ-loop
+begin-requires c κs = search needs
 
 loop-holds : tie.Need-loop-holds Inv-loop μ-loop
 loop-holds c = search needs
@@ -34,14 +33,8 @@ loop-less c = search needs
 loop-again : tie.Need-loop-again Inv-loop μ-loop
 loop-again c = search needs
 
-slice-reshare-prefix-write-all : tie.Need-slice-reshare-prefix-write-all Inv-loop μ-loop
-slice-reshare-prefix-write-all c = search needs
-
-slice-aggregate-write-all : tie.Need-slice-aggregate-write-all Inv-loop μ-loop
-slice-aggregate-write-all c = sym (length-take-le _ _ (c .before .before .loop .inv .1 .1 .1 .1))
-
-write-all-requires : tie.Need-write-all-requires Inv-loop μ-loop
-write-all-requires c κs = search needs
+finish-requires : tie.Need-finish-requires Inv-loop μ-loop
+finish-requires c κs = search needs
 
 same-length : tie.Need-same-length Inv-loop μ-loop
 same-length c = search needs
@@ -61,15 +54,13 @@ run-spec =
     (tie.spec
     Inv-loop
     μ-loop
-    new-requires
+    begin-requires
     loop-holds
     turn-requires
     turns-left-requires
     loop-less
     loop-again
-    slice-reshare-prefix-write-all
-    slice-aggregate-write-all
-    write-all-requires
+    finish-requires
     same-length
     same-length-2
     same-length-3

@@ -1,5 +1,5 @@
 use Rattle.input.proofs.Laws.{unread-as, part-fits}
-use Rattle.replay.proofs.Laws.{notice-room}
+use Rattle.case_input.proofs.Laws.{notice-room}
 use mathlib.Core.Path.{sym, _∙_}
 use borrow.Author.Tests.{not-false}
 use borrow.Author.Needs.{needs}

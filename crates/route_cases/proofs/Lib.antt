@@ -1,0 +1,3 @@
+mod Heads
+mod Looks
+pub mod Laws
