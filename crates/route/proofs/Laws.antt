@@ -36,6 +36,8 @@ use Rattle.routing.specs.Route.{roomFor, asked, askedOf, openingFor, unlessRefu
 use Rattle.route.specs.declared.Route.{Route}
 use Rattle.route.specs.declared.Opened.{Opened}
 use Rattle.route.specs.declared.Delivered.{Delivered}
+use Rattle.route.specs.declared.Taken.{Taken}
+use Rattle.route.specs.Taking.{routeAt, deliveredAt}
 use Rattle.route.specs.Calls.{Call, refusal, lastIn, behindIn, roomIn, sessionIn, withSession, isOver, emptyRoute, begunWith, begins, openBy, sizeAnswer, opening, opened, Opens, moves, takes, deliver, delivered, Delivers, end, endedBy}
 
 -- ---- the size of a route
@@ -197,6 +199,14 @@ module _ (r : Route) (piece out : List ℕ) {n : ℕ} (q : n ≡ behindIn r) whe
 
 abbrev undelivered : SocksError → Route → Delivered
 undelivered e r = record { answer = Refused e; used = 0; sent = 0; route = r }
+
+pub untaken-as : (hops : List Hop) (count : ℕ) (p : Spot) (bytes hold : List ℕ) → p .sent ≡ 0 → {e : SocksError} {t : Taken} → t ≡ record { answer = Refused e; spot = p; used = 0 }
+    → deliveredAt hops count bytes t hold ≡ undelivered e (routeAt hops count p bytes hold)
+untaken-as hops count p bytes hold z {e} q =
+    ap (λ (t : Taken). deliveredAt hops count bytes t hold) q ∙ (λ i. record { answer = Refused e; used = 0; sent = z i; route = routeAt hops count p bytes hold })
+
+pub room-enough : (r : Route) {n out : ℕ} → n ≡ lastIn (r .count) → 1024 * (n + 1) ≤ out → roomIn r ≤ out
+room-enough r q h = omega (arith, q, h)
 
 module _ (r : Route) (piece out : List ℕ) {over : Bool} (v : over ≡ isOver r) where
   refused : (e : SocksError) {d : Delivered} → d ≡ undelivered e r → deliver r piece out ≡ refusal e r out → Delivers (deliver r piece out) piece d out

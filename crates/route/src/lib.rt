@@ -10,7 +10,8 @@ ghost use Rattle.talk.specs.Talk.{isOver};
 ghost use Rattle.routing.specs.Route.{askedOf, openingFor, checkInTurn};
 ghost use Rattle.relaying.specs.Relay.{noHop, goesAt};
 ghost use Rattle.planning.specs.Plan.{proxiesOf, routeOf};
-ghost use Rattle.route.specs.Calls.{lastIn, emptyRoute, begunWith, begins, openBy, sizeAnswer, opening, Opens, takes, deliver, Delivers, end, endedBy, outcome, bound, roomIn};
+ghost use Rattle.route.specs.Taking.{Takeable, routeAt, deliveredAt};
+ghost use Rattle.route.specs.Calls.{lastIn, emptyRoute, begunWith, begins, openBy, sizeAnswer, opening, Opens, deliver, Delivers, end, endedBy, outcome, bound};
 use bound::address;
 use bound::unbound;
 pub use planning::Part;
@@ -224,31 +225,84 @@ fn is_over(stage: Stage) -> bool
     }
 }
 
-impl Route {
-    fn undelivered(self, error: SocksError) -> Delivered
-        ensures { λ r. ⌜ r ≡ record { answer = Answer.Refused error; used = 0; sent = 0; route = self } ⌝ }
-    {
-        Delivered {
-            answer: Answer::Refused(error),
-            used: 0,
-            sent: 0,
-            route: self,
-        }
-    }
+// What a piece comes to beside the hold: what is answered, where it leaves the route, and how much was used.
+struct Taken {
+    answer: Answer,
+    spot: Spot,
+    used: usize,
+}
 
-    fn take(self, piece: &[u8], out: &mut [u8]) -> Delivered
-        requires { ⌜ roomIn self ≤ length (now out) ⌝ }
-        ensures { λ r. ⌜ Delivers (takes self (now (piece .entry)) (now (out .entry))) (now (piece .entry)) r (now (out .exit)) ⌝ }
+fn untaken(error: SocksError, spot: Spot) -> Taken
+    ensures { λ r. ⌜ r ≡ record { answer = Answer.Refused error; spot = spot; used = 0 } ⌝ }
+{
+    Taken {
+        answer: Answer::Refused(error),
+        spot: spot,
+        used: 0,
+    }
+}
+
+// A piece for a route of so many proxies that stands at a spot.
+fn take(
+    hops: [Hop; 8],
+    count: usize,
+    spot: Spot,
+    bytes: &[u8],
+    hold: &mut [u8],
+    piece: &[u8],
+    out: &mut [u8],
+) -> Taken
+    requires { ⌜ Takeable spot (now bytes) (now hold) ⌝ }
+    ensures { λ r. ⌜ Delivers (deliver (routeAt hops count spot (now (bytes .entry)) (now (hold .entry))) (now (piece .entry)) (now (out .entry))) (now (piece .entry)) (deliveredAt hops count (now (bytes .entry)) r (now (hold .exit))) (now (out .exit)) ⌝ }
+{
+    let stage = spot.stage;
+    if is_over(stage) {
+        return untaken(SocksError::Settled, spot);
+    }
+    let last = last_of(count);
+    if out.len() < 1024 * (last + 1) {
+        return untaken(SocksError::ShortOutput, spot);
+    }
+    let bound = spot.bound;
+    let relayed = relay(
+        hops,
+        Spot {
+            behind: least(spot.behind, last),
+            stage: stage,
+            held: spot.held,
+            bound: bound,
+            attempts: spot.attempts,
+            sent: 0,
+        },
+        bytes,
+        hold,
+        piece,
+        out,
+    );
+    let reached = relayed.spot;
+    Taken {
+        answer: Answer::Accepted,
+        spot: reached,
+        used: relayed.used,
+    }
+}
+
+impl Route {
+    // Takes a piece, and puts what it makes due at the output's start: to the proxy that is spoken to, and once that is open to the next,
+    // which takes what it left. Refused if the route is settled, or the output has less than 1,024 bytes for each of its proxies.
+    pub fn deliver(self, piece: &[u8], out: &mut [u8]) -> Delivered
+        ensures { λ r. ⌜ Delivers (deliver self (now (piece .entry)) (now (out .entry))) (now (piece .entry)) r (now (out .exit)) ⌝ }
     {
         let stage = self.stage;
         let bound = self.bound;
         let hops = self.hops;
         let bytes = self.bytes;
         let mut hold = self.hold;
-        let relayed = relay(
+        let taken = take(
             hops,
+            self.count,
             Spot {
-                behind: least(self.behind, last_of(self.count)),
+                behind: self.behind,
                 stage: stage,
                 held: self.held,
                 bound: bound,
@@ -260,12 +314,15 @@ impl Route {
             piece,
             out,
         );
-        let reached = relayed.spot;
+        let answer = taken.answer;
+        let reached = taken.spot;
         let next = reached.stage;
         let after = reached.bound;
+        // not the array that was lent, which would be copied once more
+        let kept = self.bytes;
         Delivered {
-            answer: Answer::Accepted,
-            used: relayed.used,
+            answer: answer,
+            used: taken.used,
             sent: reached.sent,
             route: Route {
                 stage: next,
@@ -276,24 +333,9 @@ impl Route {
                 count: self.count,
                 behind: reached.behind,
                 hops: hops,
-                bytes: bytes,
+                bytes: kept,
             },
         }
-    }
-
-    // Takes a piece, and puts what it makes due at the output's start: to the proxy that is spoken to, and once that is open to the next,
-    // which takes what it left. Refused if the route is settled, or the output has less than 1,024 bytes for each of its proxies.
-    pub fn deliver(self, piece: &[u8], out: &mut [u8]) -> Delivered
-        ensures { λ r. ⌜ Delivers (deliver self (now (piece .entry)) (now (out .entry))) (now (piece .entry)) r (now (out .exit)) ⌝ }
-    {
-        let stage = self.stage;
-        if is_over(stage) {
-            return self.undelivered(SocksError::Settled);
-        }
-        if out.len() < 1024 * (last_of(self.count) + 1) {
-            return self.undelivered(SocksError::ShortOutput);
-        }
-        self.take(piece, out)
     }
 
     // The stream has ended: a route that waits has failed. Refused if it is settled.
