@@ -11,10 +11,10 @@ use case_input::Found;
 use case_input::Passed;
 use cases::heads;
 use input::Input;
+use planning::Part;
+use planning::Proxy;
 use protocol::Port;
-use route::Part;
-use route::Proxy;
-use route::Version;
+use routing::Version;
 
 // The largest proxy: four bytes and three texts of 65,535 bytes.
 const PROXY: usize = 196615;
