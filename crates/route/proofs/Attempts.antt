@@ -33,9 +33,9 @@ use Rattle.routing.specs.Route as routing
 use Rattle.routing.specs.Route.{roomFor}
 use Rattle.routing.specs.Hops.{Hop, hopOf}
 use Rattle.routing.proofs.Rooms.{EachLimits}
-use Rattle.route.specs.declared.Route.{Route}
-use Rattle.route.specs.Calls as route
-use Rattle.route.specs.Calls.{startedFor, refusal, behindIn, roomIn, sessionIn, takes, deliver}
+use Rattle.route_calls.specs.declared.Route.{Route}
+use Rattle.route_calls.specs.Calls as route
+use Rattle.route_calls.specs.Calls.{startedFor, refusal, behindIn, roomIn, sessionIn, takes, deliver}
 use Rattle.route.specs.Routed.{receiverOf, attemptsInTurn, lending, Through}
 use Rattle.route.proofs.Relays.{waits-open, fails-open, hopOn, aheadOf}
 use Rattle.route.proofs.Openings.{ahead-of, opened-as, Attempted, through-with}

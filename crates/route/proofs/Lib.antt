@@ -1,9 +1,7 @@
-pub mod Laws
 pub mod Refusals
 pub mod Relays
 pub mod Tunnels
 pub mod Openings
-pub mod Planned
 pub mod Tries
 pub mod Attempts
 pub mod Single

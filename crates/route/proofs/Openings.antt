@@ -28,26 +28,17 @@ use Rattle.routing.specs.Route.{roomFor, openings}
 use Rattle.routing.specs.Hops.{hopOf, at, routeSide, routeTalk, RouteFed}
 use Rattle.routing.proofs.Steps.{through-begins}
 use Rattle.routing.proofs.Rooms.{EachLimits}
-use Rattle.route.specs.declared.Route.{Route}
-use Rattle.route.specs.Calls.{Call, behindIn, roomIn, sessionIn, startedFor, begins, openBy, opening}
+use Rattle.route_calls.specs.declared.Route.{Route}
+use Rattle.route_calls.specs.Calls.{Call, behindIn, roomIn, sessionIn, startedFor, begins, openBy, opening}
 use Rattle.route.specs.Routed.{tunnelOf, attemptsInTurn, lending, Routed, Through}
 use Rattle.route.proofs.Refusals.{opened-some, opened-eight, opened-limits}
 use Rattle.route.proofs.Relays.{waits-open, keptAt, hopOn, aheadOf, standsAt}
 use Rattle.route.proofs.Tunnels.{Stands, Begun, Followed, followed, routed-with}
+use Rattle.route_calls.proofs.Kept.{hop-at, requests-at, hops-row, bytes-row}
 use Rattle.talk.specs.Talk.{waiting, feed}
 use Rattle.talk.specs.Tunnel.{Delivery}
 
--- ---- what an opening keeps: 1,024 bytes, of which what goes first is what goes at the opening
-
-padded-size : (o : Bool) (q a p : List ℕ) → length q + (length a + length p) ≤ 1024 → length (keptWith o q a p .bytes) ≡ 1024
-padded-size o q a p h =
-    let bs = q ++ (a ++ p) in
-    omega (arith, length-append bs (replicate (1024 - length bs) 0), length-replicate {A = ℕ} (1024 - length bs) 0, length-append q (a ++ p), length-append a p)
-
-pub kept-size : (o : Opening) → Limits o → length (keptBy o .bytes) ≡ 1024
-kept-size (v5 noAuth d port o) l = padded-size o (negotiationReq NoAuth) [] (proxyReq d port) (omega (arith, l .0, l .1))
-kept-size (v5 (userPass u p) d port o) l = padded-size o (negotiationReq UserPass) (authenticationReq u p) (proxyReq d port) (omega (arith, l .0, l .1, l .2))
-kept-size (v4 d port) l = padded-size false (request d port) [] [] (omega (arith, l))
+-- ---- of what an opening keeps, what goes first is what goes at the opening
 
 pub first-goes : (o : Opening) → Limits o → firstOf (firstReply o) (keptBy o) ≡ sends (atOpening o) []
 first-goes (v5 noAuth d port false) l = kept-parts (v5 noAuth d port false) l .0
@@ -58,47 +49,14 @@ first-goes (v5 (userPass u p) d port true) l =
     (λ i. k .0 i ++ (k .1 i ++ k .2 i)) ∙ sym (append-assoc (negotiationReq UserPass) (authenticationReq u p) (proxyReq d port))
 first-goes (v4 d port) l = kept-parts (v4 d port) l
 
--- ---- what is kept of openings in a row: each one's at the index that counts those behind it
+-- ---- each of the proxies behind is its opening's, where all are kept one behind the other
 
-hops-size : (os : List Opening) → length (hopsFor os) ≡ length os
-unfolding hopsFor
-hops-size [] = refl
-hops-size (o ∷ os) = omega (arith, length-append (hopsFor os) (hopFor o ∷ []), hops-size os)
-
-bytes-size : (os : List Opening) → EachLimits os → length (bytesFor os) ≡ 1024 * length os
-unfolding bytesFor
-bytes-size [] w = refl
-bytes-size (o ∷ os) w = omega (arith, length-append (bytesFor os) (keptBy o .bytes), bytes-size os (w .1), kept-size o (w .0))
-
-module _ (o : Opening) (os : List Opening) (w : EachLimits (o ∷ os)) (hops : List relaying.Hop) (bytes : List ℕ) where
-  abbrev allHops : List relaying.Hop
-  allHops = hopsFor os ++ (hopFor o ∷ hops)
-
-  abbrev allBytes : List ℕ
-  allBytes = bytesFor os ++ (keptBy o .bytes ++ bytes)
-
-  pub hop-at : hopAt allHops (length os) ≡ hopFor o
-  hop-at = getD-at (hopsFor os) (hopFor o) hops _ (length os) (hops-size os)
-
-  bytes-at : bytesAt allBytes (length os) ≡ keptBy o .bytes
-  bytes-at = ap (take 1024) (drop-at (bytesFor os) (keptBy o .bytes ++ bytes) (1024 * length os) (bytes-size os (w .1))) ∙ take-at (keptBy o .bytes) bytes 1024 (kept-size o (w .0))
-
-  pub requests-at : requestsAt allHops allBytes (length os) ≡ keptBy o
-  requests-at = λ i. record { lengths = hop-at i .lengths; bytes = bytes-at i }
-
-  hop-on : hopOn allHops allBytes (length os) ≡ hopOf o
-  hop-on =
-      (λ i. record { goes = firstOf (hop-at i .first) (requests-at i); first = hop-at i .first; kept = requestsOf (requests-at i) })
-      ∙ (λ i. record { goes = first-goes o (w .0) i; first = firstReply o; kept = kept-by o (w .0) i })
-
-  -- one list behind the other
-  pub hops-row : hopsFor (o ∷ os) ++ hops ≡ allHops
-  unfolding hopsFor
-  hops-row = append-assoc (hopsFor os) (hopFor o ∷ []) hops
-
-  pub bytes-row : bytesFor (o ∷ os) ++ bytes ≡ allBytes
-  unfolding bytesFor
-  bytes-row = append-assoc (bytesFor os) (keptBy o .bytes) bytes
+hop-on : (o : Opening) (os : List Opening) (w : EachLimits (o ∷ os)) (hops : List relaying.Hop) (bytes : List ℕ) → hopOn (hopsFor os ++ (hopFor o ∷ hops)) (bytesFor os ++ (keptBy o .bytes ++ bytes)) (length os) ≡ hopOf o
+hop-on o os w hops bytes =
+    let h = hop-at o os w hops bytes in
+    let q = requests-at o os w hops bytes in
+    (λ i. record { goes = firstOf (h i .first) (q i); first = h i .first; kept = requestsOf (q i) })
+    ∙ (λ i. record { goes = first-goes o (w .0) i; first = firstReply o; kept = kept-by o (w .0) i })
 
 pub ahead-of : (os : List Opening) → EachLimits os → (hops : List relaying.Hop) (bytes : List ℕ) → aheadOf (hopsFor os ++ hops) (bytesFor os ++ bytes) (length os) ≡ map hopOf os
 unfolding aheadOf

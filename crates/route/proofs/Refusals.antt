@@ -24,8 +24,8 @@ use Rattle.routing.specs.Route.{asked, openingFor, openings, roomFor, condition
 use Rattle.routing.proofs.Asked.{asked-each}
 use Rattle.routing.proofs.Checks.{check-just, Acceptable, accepted-has}
 use Rattle.routing.proofs.Rooms.{EachLimits, each-limits}
-use Rattle.route.specs.declared.Route.{Route}
-use Rattle.route.specs.Calls.{Call, refusal, roomIn, sessionIn, withSession, outcome, isOver, emptyRoute, openBy, opening, takes, deliver, end}
+use Rattle.route_calls.specs.declared.Route.{Route}
+use Rattle.route_calls.specs.Calls.{Call, refusal, roomIn, sessionIn, withSession, outcome, isOver, emptyRoute, openBy, opening, takes, deliver, end}
 use Rattle.talk.specs.Talk as talk
 
 -- ---- an opening: 21, then 1, then its openings' own numbers

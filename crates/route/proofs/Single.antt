@@ -32,12 +32,12 @@ use Rattle.planning.specs.Plan.{preparedFor, hopsFor, bytesFor}
 use Rattle.routing.specs.Route as routing
 use Rattle.routing.specs.Route.{Proxy, Asked, over5, over4, askedBy, askedOf, openingFor, checkFor, unlessRefused, checkInTurn, check}
 use Rattle.routing.proofs.Rooms.{each-limits}
-use Rattle.route.specs.declared.Route.{Route}
-use Rattle.route.specs.Calls as route
-use Rattle.route.specs.Calls.{behindIn, roomIn, sessionIn, withSession, outcome, isOver, startedFor, openBy, opening, deliver, receiver, end}
+use Rattle.route_calls.specs.declared.Route.{Route}
+use Rattle.route_calls.specs.Calls as route
+use Rattle.route_calls.specs.Calls.{behindIn, roomIn, sessionIn, withSession, outcome, isOver, startedFor, openBy, opening, deliver, receiver, end}
 use Rattle.route.specs.Routed.{Told, told, toldBy, Lent, AsOne, Single}
 use Rattle.route.proofs.Relays.{room-small}
-use Rattle.route.proofs.Openings.{requests-at}
+use Rattle.route_calls.proofs.Kept.{requests-at}
 use Rattle.talk.specs.Talk as talk
 use Rattle.talk.specs.Tunnel.{Delivery, answerTo, after}
 

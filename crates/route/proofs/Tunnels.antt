@@ -27,8 +27,8 @@ use Rattle.routing.specs.Hops.{hopOf, routeSide, routeTalk, RouteSession, Route
 use Rattle.routing.proofs.Lawful.{route-lawful, through-shaped}
 use Rattle.routing.proofs.Machines.{machines-feed, used-in-turn}
 use Rattle.routing.proofs.Sequences.{in-turn-just, in-turn-one}
-use Rattle.route.specs.declared.Route.{Route}
-use Rattle.route.specs.Calls.{behindIn, roomIn, sessionIn, withSession, outcome, bound, refusal, takes, deliver, receiver}
+use Rattle.route_calls.specs.declared.Route.{Route}
+use Rattle.route_calls.specs.Calls.{behindIn, roomIn, sessionIn, withSession, outcome, bound, refusal, takes, deliver, receiver}
 use Rattle.route.specs.Routed.{tunnelOf, joinedOf, Alike, attemptsInTurn, lending, Routed}
 use Rattle.route.proofs.Relays.{keptAt, standsAt, Onward, relayed-onward}
 use Rattle.talk.specs.Talk as talk

@@ -22,8 +22,8 @@ use Rattle.socks.specs.Attempts.{attemptsOf}
 use Rattle.planning.specs.Plan.{preparedFor}
 use Rattle.routing.specs.Route as routing
 use Rattle.routing.specs.Route.{Proxy, Asked, askedBy, roomFor, openings, machines, usedInTurn, RepliedInTurn, JustOneRow}
-use Rattle.route.specs.declared.Route.{Route}
-use Rattle.route.specs.Calls.{Call, outcome, bound, opening, receiver, end}
+use Rattle.route_calls.specs.declared.Route.{Route}
+use Rattle.route_calls.specs.Calls.{Call, outcome, bound, opening, receiver, end}
 use Rattle.talk.specs.Tunnel.{Answer, Receiver, Delivery, lends, answerTo, after, joined, Tunnel, tunnel}
 
 -- ---- deliveries to a route of so many openings count if they lend 1,024 bytes for each

@@ -1,8 +1,8 @@
 -- A route after its last delivery.
 use mathlib.Core.Bool.{Bool, true, false, cond}
 use Rattle.protocol.specs.Numbers.{answerNumber}
-use Rattle.route.specs.declared.Route.{Route}
-use Rattle.route.specs.Calls.{end}
+use Rattle.route_calls.specs.declared.Route.{Route}
+use Rattle.route_calls.specs.Calls.{end}
 use Rattle.route_course.specs.declared.Last.{Last}
 
 -- end of stream is a call of its own, if it comes at all

@@ -33,12 +33,12 @@ use Rattle.planning.specs.declared.Proxy.{Proxy}
 use Rattle.planning.specs.Plan.{proxyOf, proxiesOf, noProxy, counted, routeOf}
 use Rattle.routing.specs.Route as routing
 use Rattle.routing.specs.Route.{roomFor, asked, askedOf, openingFor, unlessRefused, checkInTurn, check, openings}
-use Rattle.route.specs.declared.Route.{Route}
-use Rattle.route.specs.declared.Opened.{Opened}
-use Rattle.route.specs.declared.Delivered.{Delivered}
-use Rattle.route.specs.declared.Taken.{Taken}
-use Rattle.route.specs.Taking.{routeAt, deliveredAt}
-use Rattle.route.specs.Calls.{Call, refusal, lastIn, behindIn, roomIn, sessionIn, withSession, isOver, emptyRoute, begunWith, begins, openBy, sizeAnswer, opening, opened, Opens, moves, takes, deliver, delivered, Delivers, end, endedBy}
+use Rattle.route_calls.specs.declared.Route.{Route}
+use Rattle.route_calls.specs.declared.Opened.{Opened}
+use Rattle.route_calls.specs.declared.Delivered.{Delivered}
+use Rattle.route_calls.specs.declared.Taken.{Taken}
+use Rattle.route_calls.specs.Taking.{routeAt, deliveredAt}
+use Rattle.route_calls.specs.Calls.{Call, refusal, lastIn, behindIn, roomIn, sessionIn, withSession, isOver, emptyRoute, begunWith, begins, openBy, sizeAnswer, opening, opened, Opens, moves, takes, deliver, delivered, Delivers, end, endedBy}
 
 -- ---- the size of a route
 

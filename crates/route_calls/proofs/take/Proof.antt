@@ -1,17 +1,17 @@
 use Prim.Native.Nat.{ℕ, min}
 use mathlib.Core.Path.{ap, _∙_}
 use lib.ListN.{take}
-use Rattle.route.specs.Taking.{routeAt}
-use Rattle.route.proofs.Laws.{delivers-settled, delivers-short, relay-asks, room-enough, delivers-takes, takes-as, untaken-as}
+use Rattle.route_calls.specs.Taking.{routeAt}
+use Rattle.route_calls.proofs.Laws.{delivers-settled, delivers-short, relay-asks, room-enough, delivers-takes, takes-as, untaken-as}
 use borrow.Author.Needs.{needs}
-use Rattle.route.proofs.take.Statement.{statement}
-use Rattle.route.proofs.take.Tie as tie
-use Rattle.route.proofs.take.Reads as reads
-use Rattle.route.proofs.take.Lts as lts
+use Rattle.route_calls.proofs.take.Statement.{statement}
+use Rattle.route_calls.proofs.take.Tie as tie
+use Rattle.route_calls.proofs.take.Reads as reads
+use Rattle.route_calls.proofs.take.Lts as lts
 use Rattle.relaying.proofs.relay.Reads as relay-reads
-use Rattle.route.proofs.is_over.Reads as is-over-reads
-use Rattle.route.proofs.last_of.Reads as last-of-reads
-use Rattle.route.proofs.untaken.Reads as untaken-reads
+use Rattle.route_calls.proofs.is_over.Reads as is-over-reads
+use Rattle.route_calls.proofs.last_of.Reads as last-of-reads
+use Rattle.route_calls.proofs.untaken.Reads as untaken-reads
 use Rattle.wire.proofs.least.Reads as least-reads
 
 -- src/lib.rt:259:8

@@ -1,11 +1,11 @@
 use Rattle.session.proofs.Deliveries.{ends-as}
-use Rattle.route.specs.Calls.{sessionIn}
-use Rattle.route.proofs.Laws.{ends-like}
+use Rattle.route_calls.specs.Calls.{sessionIn}
+use Rattle.route_calls.proofs.Laws.{ends-like}
 use borrow.Author.Needs.{needs}
-use Rattle.route.proofs.Route.end.Statement.{statement}
-use Rattle.route.proofs.Route.end.Tie as tie
-use Rattle.route.proofs.Route.end.Reads as reads
-use Rattle.route.proofs.Route.end.Lts as lts
+use Rattle.route_calls.proofs.Route.end.Statement.{statement}
+use Rattle.route_calls.proofs.Route.end.Tie as tie
+use Rattle.route_calls.proofs.Route.end.Reads as reads
+use Rattle.route_calls.proofs.Route.end.Lts as lts
 use Rattle.stages.proofs.end.Reads as end-reads
 
 -- src/lib.rt:309:13

@@ -4,12 +4,12 @@ use lib.ListN.{length}
 use lib.Seq.{length-take-le}
 use borrow.Author.Tests.{not-true, not-false}
 use Rattle.session.proofs.Named.{not-bound, bound-is}
-use Rattle.route.specs.Calls.{sessionIn}
+use Rattle.route_calls.specs.Calls.{sessionIn}
 use borrow.Author.Needs.{needs}
-use Rattle.route.proofs.Route.bound.Statement.{statement}
-use Rattle.route.proofs.Route.bound.Tie as tie
-use Rattle.route.proofs.Route.bound.Reads as reads
-use Rattle.route.proofs.Route.bound.Lts as lts
+use Rattle.route_calls.proofs.Route.bound.Statement.{statement}
+use Rattle.route_calls.proofs.Route.bound.Tie as tie
+use Rattle.route_calls.proofs.Route.bound.Reads as reads
+use Rattle.route_calls.proofs.Route.bound.Lts as lts
 use Rattle.bound.proofs.address.Reads as address-reads
 use Rattle.bound.proofs.unbound.Reads as unbound-reads
 use Rattle.stages.proofs.is_open.Reads as is-open-reads

@@ -24,10 +24,10 @@ use Rattle.relaying.specs.Relay.{noHop, hopAt, requestsAt, Relay, relayed}
 use Rattle.planning.specs.Plan.{hopsFor, bytesFor}
 use Rattle.routing.specs.Route as routing
 use Rattle.routing.specs.Route.{roomFor, check, openings}
-use Rattle.route.specs.declared.Route.{Route}
-use Rattle.route.specs.declared.Opened.{Opened}
-use Rattle.route.specs.declared.Delivered.{Delivered}
-use Rattle.route.specs.declared.Ended.{Ended}
+use Rattle.route_calls.specs.declared.Route.{Route}
+use Rattle.route_calls.specs.declared.Opened.{Opened}
+use Rattle.route_calls.specs.declared.Delivered.{Delivered}
+use Rattle.route_calls.specs.declared.Ended.{Ended}
 use Rattle.talk.specs.Talk as talk
 use Rattle.talk.specs.Tunnel.{Answer, Receiver}
 

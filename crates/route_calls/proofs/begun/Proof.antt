@@ -1,9 +1,9 @@
-use Rattle.route.proofs.Laws.{begins-as}
+use Rattle.route_calls.proofs.Laws.{begins-as}
 use borrow.Author.Needs.{needs}
-use Rattle.route.proofs.begun.Statement.{statement}
-use Rattle.route.proofs.begun.Tie as tie
-use Rattle.route.proofs.begun.Reads as reads
-use Rattle.route.proofs.begun.Lts as lts
+use Rattle.route_calls.proofs.begun.Statement.{statement}
+use Rattle.route_calls.proofs.begun.Tie as tie
+use Rattle.route_calls.proofs.begun.Reads as reads
+use Rattle.route_calls.proofs.begun.Lts as lts
 use Rattle.relaying.proofs.begin.Reads as begin-reads
 
 -- src/lib.rt:154:9

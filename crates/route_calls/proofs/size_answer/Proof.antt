@@ -1,9 +1,9 @@
-use Rattle.route.proofs.Laws.{no-proxy, too-many, too-short, sized}
+use Rattle.route_calls.proofs.Laws.{no-proxy, too-many, too-short, sized}
 use borrow.Author.Needs.{needs}
-use Rattle.route.proofs.size_answer.Statement.{statement}
-use Rattle.route.proofs.size_answer.Tie as tie
-use Rattle.route.proofs.size_answer.Reads as reads
-use Rattle.route.proofs.size_answer.Lts as lts
+use Rattle.route_calls.proofs.size_answer.Statement.{statement}
+use Rattle.route_calls.proofs.size_answer.Tie as tie
+use Rattle.route_calls.proofs.size_answer.Reads as reads
+use Rattle.route_calls.proofs.size_answer.Lts as lts
 
 -- src/lib.rt:125:9
 returns : tie.Need-returns

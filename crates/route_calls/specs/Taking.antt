@@ -5,9 +5,9 @@ use mathlib.Core.List.{List}
 use lib.ListN.{length}
 use Rattle.relaying.specs.declared.Hop.{Hop}
 use Rattle.relaying.specs.declared.Spot.{Spot}
-use Rattle.route.specs.declared.Route.{Route}
-use Rattle.route.specs.declared.Taken.{Taken}
-use Rattle.route.specs.declared.Delivered.{Delivered}
+use Rattle.route_calls.specs.declared.Route.{Route}
+use Rattle.route_calls.specs.declared.Taken.{Taken}
+use Rattle.route_calls.specs.declared.Delivered.{Delivered}
 
 -- nothing is sent yet, and the buffers are whole
 pub record Takeable (p : Spot) (bytes hold : List ℕ) : Type 0 where

@@ -1,10 +1,10 @@
-use Rattle.route.specs.Calls.{sessionIn}
+use Rattle.route_calls.specs.Calls.{sessionIn}
 use Rattle.session.specs.Session.{heldBytes}
 use borrow.Author.Needs.{needs}
-use Rattle.route.proofs.Route.outcome.Statement.{statement}
-use Rattle.route.proofs.Route.outcome.Tie as tie
-use Rattle.route.proofs.Route.outcome.Reads as reads
-use Rattle.route.proofs.Route.outcome.Lts as lts
+use Rattle.route_calls.proofs.Route.outcome.Statement.{statement}
+use Rattle.route_calls.proofs.Route.outcome.Tie as tie
+use Rattle.route_calls.proofs.Route.outcome.Reads as reads
+use Rattle.route_calls.proofs.Route.outcome.Lts as lts
 use Rattle.stages.proofs.outcome.Reads as outcome-reads
 
 -- src/lib.rt:333:9
