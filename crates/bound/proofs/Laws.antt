@@ -1,14 +1,13 @@
 -- Where a reply names its address and port, and what keeping them comes to.
-use Prim.Native.Nat.{ℕ, _+_, _-_, _*_, _≤_, _<_, min}
+use Prim.Native.Nat.{ℕ, _+_, _-_, _*_, _≤_, min}
 use native.Mathlib.Nat.{zero-add}
 use native.Mathlib.Omega.{arith}
 use mathlib.Core.Path.{_≡_, refl, ap, sym, subst, _∙_}
-use mathlib.Core.Bool.{Bool, true, false, cond}
 use mathlib.Core.List.{List, _++_}
 use lib.ListN.{length, take, drop, replicate, length-append, length-drop}
 use lib.Seq.{getD-drop, take-take, drop-drop, length-take-le}
-use lib.Dec.{eqb, lit≤}
-use borrow.Author.Tests.{eq-eqb, ne-eqb}
+use lib.Dec.{lit≤}
+use borrow.Author.Tests.{ne-eqb}
 use Rattle.protocol.specs.declared.AddressKind.{AddressKind}
 use Rattle.protocol.specs.declared.AddressKind.the-variants.{Ipv4, Ipv6, Domain}
 use Rattle.protocol.specs.declared.Bound.{Bound}
@@ -16,7 +15,7 @@ use Rattle.protocol.specs.declared.Reply.{Reply}
 use Rattle.protocol.specs.declared.Reply.the-variants.{ProxyRes}
 use Rattle.protocol.specs.Bytes.{byte, twoOf, padded}
 use Rattle.protocol.specs.Requests.{kindOf}
-use Rattle.protocol.specs.Bound.{Endpoint, endpoint, proxyBound, responseBound, boundBy, kindIn, bytesIn, boundOf, addressOf}
+use Rattle.protocol.specs.Bound.{Endpoint, endpoint, proxyBound, responseBound, boundBy, kindIn, bytesIn, addressOf}
 use Rattle.protocol.specs.Replies.{proxySize}
 use Rattle.protocol.proofs.Named.{drop-first}
 use Rattle.wire.specs.Written.{overwrite, Wrote}
@@ -25,7 +24,6 @@ use Rattle.wire.proofs.Parts.{take-min, part-from, drop-two, take-two}
 use Rattle.reader.specs.declared.Took.{Took}
 use Rattle.reader.specs.Reader.{byteAt}
 use Rattle.bound.specs.declared.Found.{Found}
-use Rattle.bound.specs.declared.Held.{Held}
 use Rattle.bound.specs.Named.{lastOf, Whole, Finds, Binds}
 
 pub byte-is : (bytes : List ℕ) (at : ℕ) {t : Took} → t ≡ byteAt bytes at → t .byte ≡ byte bytes at

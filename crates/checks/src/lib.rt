@@ -6,7 +6,7 @@ ghost use lib.ListN.{length};
 ghost use lib.Dec.{ltb};
 ghost use Rattle.protocol.specs.Host.{allAllowed};
 ghost use Rattle.protocol.specs.Requests.{kindOf};
-ghost use Rattle.protocol.specs.Opening.{refuse, isMissing, isName, isIpv6, isNone, firstRecord, firstFour};
+ghost use Rattle.protocol.specs.Opening.{refuse, isMissing, isIpv6, isNone, firstRecord, firstFour};
 ghost use Rattle.checks.specs.Checks.{checkShared, checkName, checkBy5, checkBy4};
 ghost use Rattle.lookup.specs.Chosen.{recordsOf};
 use lookup::Lookup;

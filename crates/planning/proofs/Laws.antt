@@ -1,21 +1,18 @@
 -- Parts of a text, what is asked of the proxy at a place, and openings kept one behind the other.
 use Prim.Native.Nat.{ℕ, suc, _+_, _-_, _*_, _≤_, _<_, min}
-use native.Mathlib.Nat.{zero-add}
 use native.Mathlib.Numerals.{add-one}
 use native.Mathlib.Omega.{arith}
 use mathlib.Core.Path.{_≡_, refl, ap, sym, subst, _∙_}
 use mathlib.Core.Bool.{Bool, true, false, true≢false}
 use mathlib.Core.List.{List, [], _∷_, _++_, map, append-assoc}
 use lib.ListN.{length, getD, set, take, drop, length-take, length-drop, length-map, drop-of-length-le}
-use lib.Seq.{take-all, take-at, drop-at, drop-cons, getD-take, set-split, drop-drop, length-take-le}
+use lib.Seq.{drop-at, drop-cons, getD-take, set-split, length-take-le}
 use lib.Dec.{leb}
 use borrow.Author.Tests.{leb-true, leb-false}
 use Rattle.protocol.specs.declared.Port.{Port}
 use Rattle.protocol.specs.declared.Answer as code
 use Rattle.protocol.specs.declared.Answer.the-variants.{Accepted, Refused}
-use Rattle.protocol.specs.Opening.{check5, check4, Opening, opening5, opening4}
-use Rattle.sending.specs.declared.Stage.the-variants.{Failed}
-use Rattle.session.specs.declared.Session.{Session}
+use Rattle.protocol.specs.Opening.{Opening}
 use Rattle.session.specs.declared.Prepared.{Prepared}
 use Rattle.session.specs.Calls.{keptBy, preparedBy, prepare5, prepare4}
 use Rattle.wire.specs.Written.{overwrite}

@@ -3,10 +3,9 @@ use Prim.Native.Nat.{ℕ, zero, suc, _+_, _-_, _*_, _%_, _^_, _≤_, _<_, min}
 use native.Mathlib.Omega.{arith}
 use mathlib.Core.Path.{_≡_, refl, ap, sym, subst, _∙_}
 use mathlib.Core.Bool.{Bool, true, false, cond, true≢false}
-use mathlib.Core.List.{List, [], _∷_, _++_, append-assoc}
-use lib.ListN.{length, take, drop, replicate, length-take, length-drop, length-append, length-replicate}
+use mathlib.Core.List.{List, [], _++_, append-assoc}
+use lib.ListN.{length, take, drop, replicate, length-take, length-drop, length-replicate}
 use lib.Seq.{take-take, drop-drop, take-append-seam}
-use lib.Dec.{ltb}
 use borrow.Author.Tests.{lt-ltb, ltb-true}
 use Rattle.protocol.specs.declared.AuthMethod.{AuthMethod}
 use Rattle.protocol.specs.declared.AuthMethod.the-variants.{NoAuth, UserPass, NoneAcceptable}
@@ -41,7 +40,7 @@ use Rattle.relaying.specs.declared.Relayed.{Relayed}
 use Rattle.relaying.specs.declared.Stepped.{Stepped}
 use Rattle.relaying.specs.Relay.{hopAt, bytesAt, requestsAt, goesAt, begunAt, Relay, handed, alone, handingOn, relayed, goesOn, sessionAt, spotOf, begunSpot, mostDue, Relayable, Went, Begins, Steps}
 use Rattle.talk.specs.Decision.{Decision, undecided, decided, good, bad}
-use Rattle.talk.specs.Talk.{stop, send, await, Side, TalkOf, Fed, Session as SideSession, waiting, deciding, feed}
+use Rattle.talk.specs.Talk.{stop, send, await, Side, TalkOf, Fed, Session as SideSession, deciding, feed}
 
 -- ---- a part of a proxy's requests among all
 

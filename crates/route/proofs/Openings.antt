@@ -1,27 +1,26 @@
 -- The route that an opening returns stands for its openings' talks; and F-5's promise of it, as soon as its attempts are known.
-use Prim.Native.Nat.{ℕ, suc, _+_, _-_, _*_, _%_, _^_, _≤_, _<_, min, zero-le}
+use Prim.Native.Nat.{ℕ, suc, _+_, _-_, _%_, _^_, _≤_, _<_, min, zero-le}
 use native.Mathlib.Omega.{arith}
 use mathlib.Core.Path.{_≡_, refl, ap, sym, subst, _∙_}
-use mathlib.Core.Bool.{Bool, true, false}
+use mathlib.Core.Bool.{true, false}
 use mathlib.Core.List.{List, [], _∷_, _++_, map, append-assoc}
-use lib.ListN.{length, take, replicate, length-append, length-replicate}
-use lib.Seq.{take-append-seam, take-at, drop-at, getD-at}
-use Rattle.protocol.specs.declared.AuthMethod.the-variants.{NoAuth, UserPass}
+use lib.ListN.{length, take}
+use lib.Seq.{take-append-seam}
+use Rattle.protocol.specs.declared.AuthMethod.the-variants.{UserPass}
 use Rattle.protocol.specs.declared.Answer as code
 use Rattle.protocol.specs.declared.Answer.the-variants.{Accepted, Refused}
-use Rattle.protocol.specs.Requests.{negotiationReq, authenticationReq, proxyReq, request}
+use Rattle.protocol.specs.Requests.{negotiationReq, authenticationReq, proxyReq}
 use Rattle.protocol.specs.Bound.{unbound}
 use Rattle.protocol.specs.Opening.{Opening, v5, v4, noAuth, userPass, firstReply, atOpening, Limits}
 use Rattle.protocol.specs.Machine.{sends}
 use Rattle.protocol.specs.Client as client
 use Rattle.sending.specs.Parts.{requestsOf, firstOf}
-use Rattle.session.specs.Calls.{keptWith, keptBy}
+use Rattle.session.specs.Calls.{keptBy}
 use Rattle.session.specs.Session.{view}
 use Rattle.openings.proofs.KeptBy.{kept-parts, kept-by}
 use Rattle.socks.specs.Demand3.{BytePieces}
 use Rattle.socks.proofs.Refusals.{clash}
 use Rattle.relaying.specs.declared.Hop as relaying
-use Rattle.relaying.specs.Relay.{hopAt, bytesAt, requestsAt}
 use Rattle.planning.specs.Plan.{hopFor, hopsFor, bytesFor}
 use Rattle.routing.specs.Route as routing
 use Rattle.routing.specs.Route.{roomFor, openings}
@@ -34,7 +33,7 @@ use Rattle.route.specs.Routed.{tunnelOf, attemptsInTurn, lending, Routed
 use Rattle.route.proofs.Refusals.{opened-some, opened-eight, opened-limits}
 use Rattle.route.proofs.Relays.{waits-open, keptAt, hopOn, aheadOf, standsAt}
 use Rattle.route.proofs.Tunnels.{Stands, Begun, Followed, followed, routed-with}
-use Rattle.route_calls.proofs.Kept.{hop-at, requests-at, hops-row, bytes-row}
+use Rattle.route_opening.proofs.Kept.{hop-at, requests-at, hops-row, bytes-row}
 use Rattle.talk.specs.Talk.{waiting, feed}
 use Rattle.talk.specs.Tunnel.{Delivery}
 

@@ -37,7 +37,7 @@ use Rattle.route_calls.specs.Calls as route
 use Rattle.route_calls.specs.Calls.{behindIn, roomIn, sessionIn, withSession, outcome, isOver, startedFor, openBy, opening, deliver, receiver, end}
 use Rattle.route.specs.Routed.{Told, told, toldBy, Lent, AsOne, Single}
 use Rattle.route.proofs.Relays.{room-small}
-use Rattle.route_calls.proofs.Kept.{requests-at}
+use Rattle.route_opening.proofs.Kept.{requests-at}
 use Rattle.talk.specs.Talk as talk
 use Rattle.talk.specs.Tunnel.{Delivery, answerTo, after}
 

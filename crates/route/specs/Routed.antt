@@ -2,7 +2,7 @@
 use Prim.Native.Nat.{ℕ, _+_, _-_, _%_, _^_, _≤_}
 use mathlib.Core.Path.{_≡_}
 use mathlib.Core.Logic.{_↔_}
-use mathlib.Core.Bool.{Bool, true, cond}
+use mathlib.Core.Bool.{cond}
 use mathlib.Core.List.{List, [], _∷_, _++_, List·Memᴰ}
 use lib.ListN.{length, take, drop}
 use Rattle.protocol.specs.declared.Port.{Port}
@@ -11,9 +11,8 @@ use Rattle.protocol.specs.declared.Answer.the-variants.{Accepted}
 use Rattle.protocol.specs.declared.Outcome.{Outcome}
 use Rattle.protocol.specs.declared.Outcome.the-variants.{Waiting, Open, Failed}
 use Rattle.protocol.specs.Bound.{addressOf}
-use Rattle.protocol.specs.Opening.{Opening, startRoom, deliveryRoom}
+use Rattle.protocol.specs.Opening.{Opening}
 use Rattle.protocol.specs.Machine.{machine}
-use Rattle.session.specs.declared.Session.{Session}
 use Rattle.session.specs.Session as session
 use Rattle.session.specs.Calls as session-calls
 use Rattle.socks.specs.Demand3.{BytePieces}
@@ -23,7 +22,7 @@ use Rattle.planning.specs.Plan.{preparedFor}
 use Rattle.routing.specs.Route as routing
 use Rattle.routing.specs.Route.{Proxy, Asked, askedBy, roomFor, openings, machines, usedInTurn, RepliedInTurn, JustOneRow}
 use Rattle.route_calls.specs.declared.Route.{Route}
-use Rattle.route_calls.specs.Calls.{Call, outcome, bound, opening, receiver, end}
+use Rattle.route_calls.specs.Calls.{outcome, bound, opening, receiver, end}
 use Rattle.talk.specs.Tunnel.{Answer, Receiver, Delivery, lends, answerTo, after, joined, Tunnel, tunnel}
 
 -- ---- deliveries to a route of so many openings count if they lend 1,024 bytes for each

@@ -5,5 +5,5 @@ pub use route_calls::Delivered;
 pub use route_calls::Ended;
 pub use route_calls::Opened;
 pub use route_calls::Route;
-pub use route_calls::open;
+pub use route_opening::open;
 pub use routing::Version;

@@ -1,35 +1,24 @@
 // A route through one to eight proxies in a row: a value that is opened, fed with pieces, and ended.
 ghost use mathlib.Core.Path.{_≡_};
-ghost use mathlib.Core.List.{List, map};
-ghost use Prim.Native.Nat.{ℕ, _-_, _≤_, _<_};
-ghost use lib.ListN.{length, take, replicate};
+ghost use mathlib.Core.List.{List};
+ghost use Prim.Native.Nat.{ℕ, _-_, _<_};
+ghost use lib.ListN.{take};
 ghost use Rattle.protocol.specs.declared.Answer.the-variants as Answer;
 ghost use Rattle.protocol.specs.declared.Bound.{Bound};
 ghost use Rattle.sending.specs.Stages.{viewAt};
 ghost use Rattle.talk.specs.Talk.{isOver};
-ghost use Rattle.routing.specs.Route.{askedOf, openingFor, checkInTurn};
-ghost use Rattle.relaying.specs.Relay.{noHop, goesAt};
-ghost use Rattle.planning.specs.Plan.{proxiesOf, routeOf};
 ghost use Rattle.route_calls.specs.Taking.{Takeable, routeAt, deliveredAt};
-ghost use Rattle.route_calls.specs.Calls.{lastIn, emptyRoute, begunWith, begins, openBy, sizeAnswer, opening, Opens, deliver, Delivers, end, endedBy, outcome, bound};
+ghost use Rattle.route_calls.specs.Calls.{lastIn, deliver, Delivers, end, endedBy, outcome, bound};
 use bound::address;
 use bound::unbound;
-use planning::Proxy;
-use planning::plan;
 use protocol::Address;
-use protocol::AddressKind;
 use protocol::Answer;
-use protocol::AuthMethod;
 use protocol::Bound;
 use protocol::Outcome;
-use protocol::Port;
-use protocol::Reply;
 use protocol::SocksError;
 use relaying::Hop;
 use relaying::Spot;
-use relaying::begin;
 use relaying::relay;
-use sending::Lengths;
 use sending::Stage;
 use stages::is_open;
 use wire::least;
@@ -74,143 +63,6 @@ fn last_of(count: usize) -> usize
         return 0;
     }
     least(count - 1, 7)
-}
-
-fn no_hops() -> [Hop; 8]
-    ensures { λ r. ⌜ r ≡ replicate 8 noHop ⌝ }
-{
-    let none = Hop {
-        first: Reply::NegotiationRes(AuthMethod::NoAuth),
-        lengths: Lengths {
-            optimistic: false,
-            first: 0,
-            authentication: 0,
-            proxy: 0,
-        },
-    };
-    [none; 8]
-}
-
-// A route that was refused is empty, and has failed with that error.
-fn refuse(error: SocksError) -> Opened
-    ensures { λ r. ⌜ r ≡ record { answer = Answer.Refused error; sent = 0; route = emptyRoute error } ⌝ }
-{
-    Opened {
-        answer: Answer::Refused(error),
-        sent: 0,
-        route: Route {
-            stage: Stage::Failed(error),
-            held: 0,
-            hold: [0u8; 261],
-            bound: Bound {
-                kind: AddressKind::Ipv4,
-                port: 0,
-            },
-            attempts: 0,
-            count: 0,
-            behind: 0,
-            hops: no_hops(),
-            bytes: [0u8; 8192],
-        },
-    }
-}
-
-// What the number of proxies and the output lent answer.
-fn size_answer(count: usize, room: usize) -> Answer
-    ensures { λ r. ⌜ r ≡ sizeAnswer count room ⌝ }
-{
-    if count == 0 {
-        return Answer::Refused(SocksError::RouteLength);
-    }
-    if 8 < count {
-        return Answer::Refused(SocksError::RouteLength);
-    }
-    if room < 1024 * count {
-        return Answer::Refused(SocksError::ShortOutput);
-    }
-    Answer::Accepted
-}
-
-// All openings are prepared: the first proxy is begun.
-fn begun(hops: [Hop; 8], count: usize, bytes: [u8; 8192], out: &mut [u8]) -> Opened
-    requires { ⌜ (0 < count) × ((count ≤ 8) × (1024 ≤ length (now out))) ⌝ }
-    ensures { λ r. ⌜ Opens (begins (begunWith hops bytes count) (goesAt hops bytes (count - 1)) (now (out .entry))) r (now (out .exit)) ⌝ }
-{
-    let spot = begin(
-        hops,
-        Spot {
-            behind: count,
-            stage: Stage::Open,
-            held: 0,
-            bound: Bound {
-                kind: AddressKind::Ipv4,
-                port: 0,
-            },
-            attempts: 0,
-            sent: 0,
-        },
-        &bytes,
-        out,
-    );
-    let stage = spot.stage;
-    let bound = spot.bound;
-    Opened {
-        answer: Answer::Accepted,
-        sent: spot.sent,
-        route: Route {
-            stage: stage,
-            held: 0,
-            hold: [0u8; 261],
-            bound: bound,
-            attempts: 0,
-            count: count,
-            behind: spot.behind,
-            hops: hops,
-            bytes: bytes,
-        },
-    }
-}
-
-// One to eight proxies with enough output.
-fn open_sized(
-    proxies: [Proxy; 8],
-    count: usize,
-    text: &[u8],
-    host: &[u8],
-    port: Port,
-    out: &mut [u8],
-) -> Opened
-    requires { ⌜ (0 < count) × ((count ≤ 8) × (1024 ≤ length (now out))) ⌝ }
-    ensures { λ r. ⌜ Opens (openBy (checkInTurn (askedOf (proxiesOf (now (text .entry)) (take count proxies)) (now (host .entry)) port)) (map openingFor (askedOf (proxiesOf (now (text .entry)) (take count proxies)) (now (host .entry)) port)) (now (out .entry))) r (now (out .exit)) ⌝ }
-{
-    let mut bytes = [0u8; 8192];
-    let planned = plan(proxies, 0, count, text, host, port, no_hops(), &mut bytes);
-    let answer = planned.answer;
-    let hops = planned.hops;
-    match answer {
-        Answer::Accepted => begun(hops, count, bytes, out),
-        Answer::Refused(error) => refuse(error),
-    }
-}
-
-// Opens a route of so many proxies to a destination. Their hosts and credentials are parts of the text. The caller connects to the first,
-// whose own host and port are not looked at. All openings are checked before any byte goes, without local lookup. Refused if there is no
-// proxy or there are more than eight, or the output has less than 1,024 bytes for each, or an opening is.
-pub fn open(
-    proxies: [Proxy; 8],
-    count: usize,
-    text: &[u8],
-    host: &[u8],
-    port: Port,
-    out: &mut [u8],
-) -> Opened
-    ensures { λ r. ⌜ Opens (opening (routeOf (now (text .entry)) proxies count (now (host .entry)) port) (now (out .entry))) r (now (out .exit)) ⌝ }
-{
-    let answer = size_answer(count, out.len());
-    match answer {
-        Answer::Accepted => open_sized(proxies, count, text, host, port, out),
-        Answer::Refused(error) => refuse(error),
-    }
 }
 
 fn is_over(stage: Stage) -> bool

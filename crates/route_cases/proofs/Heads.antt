@@ -1,10 +1,10 @@
 -- What is read, from the numbers and parts as they are read, and proxies one by one.
-use Prim.Native.Nat.{ℕ, suc, _+_, _*_, _≤_, _<_}
+use Prim.Native.Nat.{ℕ, _+_, _*_, _≤_, _<_}
 use native.Mathlib.Omega.{arith}
 use native.Mathlib.Numerals.{add-one}
-use mathlib.Core.Path.{_≡_, refl, sym, _∙_}
+use mathlib.Core.Path.{_≡_, refl}
 use mathlib.Core.Bool.{Bool, true, false, _&&_}
-use mathlib.Core.List.{List, [], _∷_, _++_}
+use mathlib.Core.List.{List}
 use lib.ListN.{length, getD, take, set, length-set}
 use lib.Seq.{take-suc-set}
 use borrow.Author.Tests.{lt-ltb, le-ltb}
@@ -13,7 +13,7 @@ use Rattle.routing.specs.declared.Version.{Version}
 use Rattle.planning.specs.declared.Part.{Part}
 use Rattle.planning.specs.declared.Proxy.{Proxy}
 use Rattle.cases.specs.Cases.{numberAt, flag, portOf, isVersion}
-use Rattle.route_cases.specs.Routes.{partAt, endOf, Small, targetOf, versionOf, proxyAt, proxyEnd, ProxyEnds, place, proxiesAt, knownVersions, wholeProxy}
+use Rattle.route_cases.specs.Routes.{partAt, endOf, targetOf, versionOf, proxyAt, proxyEnd, ProxyEnds, place, proxiesAt, knownVersions, wholeProxy}
 
 pub target : (s : List ℕ) (f m e n : ℕ) (h : Part) (p : Port)
     → f ≡ getD s 0 0 → h ≡ partAt s 3 → e ≡ endOf h → m ≡ numberAt s 1 → p ≡ portOf f m → n ≡ getD s e 0

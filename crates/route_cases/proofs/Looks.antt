@@ -13,7 +13,7 @@ use Rattle.route_cases.specs.declared.Target.{Target}
 use Rattle.route_cases.specs.declared.Proxies.{Proxies}
 use Rattle.route_cases.specs.declared.Head.{Head}
 use Rattle.route_cases.specs.declared.Seen.{Seen}
-use Rattle.route_cases.specs.Routes.{endOf, targetOf, Targets, knownVersions, ReadProxies, isGood, Inside, Reads, bareHead, Sees, Passes, Looks}
+use Rattle.route_cases.specs.Routes.{targetOf, Targets, knownVersions, ReadProxies, isGood, Inside, Reads, bareHead, Passes, Looks}
 
 pub never : {A : Type 0} → false ≡ true → A
 never f =

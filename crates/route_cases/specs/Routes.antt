@@ -10,7 +10,7 @@ use Rattle.routing.specs.declared.Version.{Version}
 use Rattle.routing.specs.declared.Version.the-variants.{V4, V5}
 use Rattle.planning.specs.declared.Part.{Part}
 use Rattle.planning.specs.declared.Proxy.{Proxy}
-use Rattle.input.specs.declared.Input.{Input}
+use Rattle.planning.specs.Plan.{noProxy}
 use Rattle.input.specs.Inputs.{Unread}
 use Rattle.case_input.specs.declared.Found.{Found}
 use Rattle.case_input.specs.Deliveries.{unread}
@@ -130,10 +130,6 @@ pub record Reads (s : List ℕ) (h : Head) (good : Bool) : Type 0 where
 
 abbrev pub nothing : Part
 nothing = record { from = 0; len = 0 }
-
-abbrev pub noProxy : Proxy
-noProxy =
-    record { version = V5; host = nothing; port = Missing; «proxy_auth» = false; optimistic = false; user = nothing; password = nothing }
 
 abbrev pub bareHead : ℕ → ℕ → Head
 bareHead f n = record { flags = f; port = Missing; host = nothing; count = n; proxies = replicate 8 noProxy; tail = 0 }

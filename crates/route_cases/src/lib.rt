@@ -6,7 +6,8 @@ ghost use lib.ListN.{length};
 ghost use Rattle.input.specs.Inputs.{Unread};
 ghost use Rattle.case_input.specs.Deliveries.{unread};
 ghost use Rattle.cases.specs.Cases.{isVersion};
-ghost use Rattle.route_cases.specs.Routes.{partAt, endOf, Small, versionOf, proxyAt, ProxyEnds, targetOf, Targets, ReadProxies, noProxy, isGood, Reads, bareHead, wholeProxy, NextProxy, Looks, Passes};
+ghost use Rattle.planning.specs.Plan.{noProxy};
+ghost use Rattle.route_cases.specs.Routes.{partAt, endOf, Small, versionOf, proxyAt, ProxyEnds, targetOf, Targets, ReadProxies, isGood, Reads, bareHead, wholeProxy, NextProxy, Looks, Passes};
 use case_input::Found;
 use case_input::Passed;
 use cases::heads;
@@ -97,7 +98,7 @@ fn no_proxy() -> Proxy
 {
     let none = Part { from: 0, len: 0 };
     Proxy {
-        version: Version::V5,
+        version: Version::V4,
         host: none,
         port: Port::Missing,
         proxy_auth: false,

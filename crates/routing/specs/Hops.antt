@@ -1,5 +1,4 @@
 -- The route as a side of a handshake: its openings' talks, each grafted in place of the end of the one before. Written apart from the plain machines.
-use mathlib.Core.Bool.{Bool}
 use mathlib.Core.List.{List, [], _∷_}
 use Prim.Native.Nat.{ℕ}
 use Rattle.protocol.specs.declared.SocksError.{SocksError}

@@ -8,8 +8,6 @@ use lib.ListN.{length, take, drop, length-take, take-append-drop}
 use lib.Dec.{eqb}
 use Rattle.protocol.specs.declared.AuthMethod.{AuthMethod}
 use Rattle.protocol.specs.declared.AuthMethod.the-variants.{NoAuth, UserPass, NoneAcceptable}
-use Rattle.protocol.specs.declared.Reply.{Reply}
-use Rattle.protocol.specs.declared.Reply.the-variants.{NegotiationRes, AuthenticationRes, ProxyRes, Response}
 use Rattle.protocol.specs.declared.Verdict.the-variants.{Good, Bad}
 use Rattle.protocol.specs.declared.Decision.{Decision}
 use Rattle.protocol.specs.declared.Decision.the-variants.{Undecided, Decided}
@@ -18,7 +16,7 @@ use Rattle.protocol.specs.AddressReading.{ipv4, ipv6, domain}
 use Rattle.protocol.specs.Bound.{endpoint, proxyBound, responseBound, bytesIn}
 use Rattle.protocol.specs.Opening.{Opening, v5, v4, noAuth, userPass}
 use Rattle.protocol.specs.Replies.{decide}
-use Rattle.protocol.specs.Client.{Kept, ClientTalk, due, atProxyRes, atAuthenticationRes, afterMethod, talkAt, told, client, kept, begun, side}
+use Rattle.protocol.specs.Client.{Kept, ClientTalk, due, atProxyRes, atAuthenticationRes, afterMethod, told, client, kept, begun, side}
 use Rattle.protocol.proofs.Bytes.{bytes-left, bytes-right}
 use Rattle.protocol.proofs.Replies.{undecided-261}
 use Rattle.sending.specs.Stages.{holdsOf}

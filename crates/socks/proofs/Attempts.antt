@@ -1,16 +1,15 @@
 -- F-11: a tunnel's session carries the attempts that the plain machine's decisions come to, within its bounds.
-use Prim.Native.Nat.{ℕ, _+_, _-_, _%_, _^_, _≤_, _<_, zero-le}
+use Prim.Native.Nat.{ℕ, _+_, _-_, _%_, _^_, _≤_, _<_}
 use native.Mathlib.Omega.{arith}
 use mathlib.Core.Path.{_≡_, refl, ap, sym, subst, _∙_}
 use mathlib.Core.Bool.{Bool, true, false, cond, not, _&&_, true≢false}
 use mathlib.Core.List.{List, [], _∷_, _++_, append-assoc, append-nil}
-use lib.ListN.{length, take}
+use lib.ListN.{length}
 use lib.Dec.{leb, ltb}
 use borrow.Author.Tests.{lt-ltb, not-true}
 use Rattle.protocol.specs.declared.Answer.{Answer}
 use Rattle.protocol.specs.declared.Answer.the-variants.{Accepted, Refused}
 use Rattle.protocol.specs.declared.SocksError.the-variants.{ShortOutput, Settled, OutOfOrder}
-use Rattle.protocol.specs.declared.Outcome.{Outcome}
 use Rattle.protocol.specs.Opening.{V5, V4, check5, check4, Opening, opening5, opening4, deliveryRoom, Limits, Sixteen}
 use Rattle.protocol.specs.Machine.{Machine, machine, decidedOn}
 use Rattle.protocol.specs.Client as client
@@ -28,13 +27,13 @@ use Rattle.socks.specs.Demand3.{BytePieces}
 use Rattle.socks.specs.Attempts.{oneIf, isWaiting, isAccepted, hasByte, lendsFor, counts, attemptsAt, attemptsOf, acceptedIn, Effort, Tried}
 use Rattle.socks.proofs.Refusals.{clash}
 use Rattle.socks.proofs.InTwo.{start-begins}
-use Rattle.socks.proofs.Tunnels.{Stands, asks-same, step, joined-bytes, Begun}
+use Rattle.socks.proofs.Tunnels.{Stands, asks-same, step, joined-bytes}
 use Rattle.socks.proofs.Openings.{begins-stands}
 use Rattle.talk.specs.Talk as talk
 use Rattle.talk.specs.Talk.{Side, SessionOf, waiting, ended, isOver, onward, feed}
 use Rattle.talk.specs.Tunnel as side
 use Rattle.talk.specs.Tunnel.{Delivery, answerTo, after, joined}
-use Rattle.talk.specs.Attempts.{decidedIn, decidedBy, oneIfWaiting, attemptsBy}
+use Rattle.talk.specs.Attempts.{decidedBy, oneIfWaiting, attemptsBy}
 use Rattle.talk.proofs.Feed.{feed-append, feed-still}
 use Rattle.talk.proofs.Deliveries.{lent, unlent}
 use Rattle.talk.proofs.Attempts.{decided-append}

@@ -17,7 +17,7 @@ use Rattle.protocol.specs.declared.Verdict.the-variants.{Good, Bad}
 use Rattle.protocol.specs.declared.Decision.{Decision}
 use Rattle.protocol.specs.declared.Decision.the-variants.{Undecided, Decided}
 use Rattle.protocol.specs.Bytes.{byte}
-use Rattle.protocol.specs.Bound.{Endpoint, unbound, boundBy}
+use Rattle.protocol.specs.Bound.{unbound}
 use Rattle.protocol.specs.Replies.{decide}
 use Rattle.protocol.proofs.Named.{proxy-whole, response-whole}
 use Rattle.protocol.proofs.Replies.{decided-within, undecided-by}
@@ -34,7 +34,7 @@ use Rattle.sending.proofs.Sending.{still-after, part-on}
 use Rattle.sending.proofs.Stages.{awaits}
 use Rattle.bound.specs.Named.{lastOf, Whole}
 use Rattle.turns.specs.declared.Turn.{Turn}
-use Rattle.turns.specs.Turns.{keptIn, onStage, oneDecided, turnDecided, decidedAt, goesOn, Rests, turnBegin, Turns, namedAt, Ready, Worked}
+use Rattle.turns.specs.Turns.{keptIn, onStage, oneDecided, turnDecided, decidedAt, goesOn, Rests, Turns, namedAt, Ready, Worked}
 use Rattle.turns.proofs.Steps.{stage-good, stage-bad, stage-rests, decides-good, decides-bad, rests-decided, rank-falls}
 use Rattle.talk.specs.Talk.{sending, moving}
 use Rattle.talk.proofs.Feed.{same-fed}

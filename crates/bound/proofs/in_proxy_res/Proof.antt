@@ -1,6 +1,5 @@
 use mathlib.Core.Path.{sym, _∙_}
 use mathlib.Core.List.{_++_}
-use native.Mathlib.Omega.{arith}
 use Rattle.bound.proofs.Laws.{byte-is, finds-four, finds-six, finds-name}
 use borrow.Author.Needs.{needs}
 use Rattle.bound.proofs.in_proxy_res.Statement.{statement}

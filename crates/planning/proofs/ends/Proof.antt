@@ -1,8 +1,6 @@
 use borrow.Author.Needs.{needs}
 use Rattle.planning.proofs.ends.Statement.{statement}
 use Rattle.planning.proofs.ends.Tie as tie
-use Rattle.planning.proofs.ends.Reads as reads
-use Rattle.planning.proofs.ends.Lts as lts
 
 -- src/lib.rt:154:29
 enum-told : tie.Need-enum-told

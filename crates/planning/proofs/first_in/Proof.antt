@@ -1,8 +1,6 @@
 use borrow.Author.Needs.{needs}
 use Rattle.planning.proofs.first_in.Statement.{statement}
 use Rattle.planning.proofs.first_in.Tie as tie
-use Rattle.planning.proofs.first_in.Reads as reads
-use Rattle.planning.proofs.first_in.Lts as lts
 
 -- src/lib.rt:120:25
 enum-known-stage : tie.Need-enum-known-stage

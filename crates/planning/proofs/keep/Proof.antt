@@ -5,10 +5,6 @@ use Rattle.protocol.specs.declared.Reply.{Reply}
 use borrow.Author.Needs.{needs}
 use Rattle.planning.proofs.keep.Statement.{statement}
 use Rattle.planning.proofs.keep.Tie as tie
-use Rattle.planning.proofs.keep.Reads as reads
-use Rattle.planning.proofs.keep.Lts as lts
-use Rattle.planning.proofs.first_in.Reads as first-in-reads
-use Rattle.wire.proofs.copy.Reads as copy-reads
 
 -- src/lib.rt:135:17
 mul-copy : tie.Need-mul-copy

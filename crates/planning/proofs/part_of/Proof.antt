@@ -2,9 +2,6 @@ use Rattle.planning.proofs.Laws.{part-as}
 use borrow.Author.Needs.{needs}
 use Rattle.planning.proofs.part_of.Statement.{statement}
 use Rattle.planning.proofs.part_of.Tie as tie
-use Rattle.planning.proofs.part_of.Reads as reads
-use Rattle.planning.proofs.part_of.Lts as lts
-use Rattle.wire.proofs.least.Reads as least-reads
 
 -- src/lib.rt:46:9
 least-requires : tie.Need-least-requires

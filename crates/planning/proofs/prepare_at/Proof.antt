@@ -1,14 +1,9 @@
 use mathlib.Core.Path.{_≡_}
 use lib.ListN.{length}
-use Prim.Native.Nat.{_+_, _<_, _≤_}
 use Rattle.planning.proofs.Laws.{prepares-last, prepares-next}
 use borrow.Author.Needs.{needs}
 use Rattle.planning.proofs.prepare_at.Statement.{statement}
 use Rattle.planning.proofs.prepare_at.Tie as tie
-use Rattle.planning.proofs.prepare_at.Reads as reads
-use Rattle.planning.proofs.prepare_at.Lts as lts
-use Rattle.planning.proofs.part_of.Reads as part-of-reads
-use Rattle.planning.proofs.prepare_for.Reads as prepare-for-reads
 
 -- src/lib.rt:105:17
 mul-proxy : tie.Need-mul-proxy

@@ -1,11 +1,6 @@
 use borrow.Author.Needs.{needs}
 use Rattle.planning.proofs.prepare_for.Statement.{statement}
 use Rattle.planning.proofs.prepare_for.Tie as tie
-use Rattle.planning.proofs.prepare_for.Reads as reads
-use Rattle.planning.proofs.prepare_for.Lts as lts
-use Rattle.owned_records.proofs.prepare4.Reads as prepare4-reads
-use Rattle.planning.proofs.no_records.Reads as no-records-reads
-use Rattle.planning.proofs.prepare_v5.Reads as prepare-v5-reads
 
 -- src/lib.rt:89:52
 enum-told : tie.Need-enum-told

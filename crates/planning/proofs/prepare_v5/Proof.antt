@@ -2,11 +2,6 @@ use Rattle.planning.proofs.Laws.{prepared5}
 use borrow.Author.Needs.{needs}
 use Rattle.planning.proofs.prepare_v5.Statement.{statement}
 use Rattle.planning.proofs.prepare_v5.Tie as tie
-use Rattle.planning.proofs.prepare_v5.Reads as reads
-use Rattle.planning.proofs.prepare_v5.Lts as lts
-use Rattle.owned_records.proofs.prepare5.Reads as prepare5-reads
-use Rattle.planning.proofs.no_records.Reads as no-records-reads
-use Rattle.planning.proofs.part_of.Reads as part-of-reads
 
 -- src/lib.rt:75:9
 part-of-requires : tie.Need-part-of-requires

@@ -6,10 +6,6 @@ use borrow.Author.Needs.{needs}
 use Prim.Native.Nat.{_-_}
 use Rattle.relaying.proofs.begin.Statement.{statement}
 use Rattle.relaying.proofs.begin.Tie as tie
-use Rattle.relaying.proofs.begin.Reads as reads
-use Rattle.relaying.proofs.begin.Lts as lts
-use Rattle.relaying.proofs.send.Reads as send-reads
-use Rattle.starting.proofs.first_size.Reads as first-size-reads
 
 -- src/lib.rt:67:17
 sub-index : tie.Need-sub-index

@@ -1,8 +1,6 @@
 use borrow.Author.Needs.{needs}
 use Rattle.relaying.proofs.goes_on.Statement.{statement}
 use Rattle.relaying.proofs.goes_on.Tie as tie
-use Rattle.relaying.proofs.goes_on.Reads as reads
-use Rattle.relaying.proofs.goes_on.Lts as lts
 
 -- src/lib.rt:55:25
 enum-known-stage : tie.Need-enum-known-stage

@@ -2,11 +2,6 @@ use Rattle.relaying.proofs.Laws.{sends-inside, hands, hands-few}
 use borrow.Author.Needs.{needs}
 use Rattle.relaying.proofs.hand.Statement.{statement}
 use Rattle.relaying.proofs.hand.Tie as tie
-use Rattle.relaying.proofs.hand.Reads as reads
-use Rattle.relaying.proofs.hand.Lts as lts
-use Rattle.receiving.proofs.receive.Reads as receive-reads
-use Rattle.relaying.proofs.send.Reads as send-reads
-use Rattle.std.proofs.num.wrapping_add_u64.Reads as wrapping-add-u64-reads
 
 -- src/lib.rt:98:15
 mul-hop : tie.Need-mul-hop

@@ -2,9 +2,6 @@ use Rattle.relaying.proofs.Laws.{sent-as}
 use borrow.Author.Needs.{needs}
 use Rattle.relaying.proofs.send.Statement.{statement}
 use Rattle.relaying.proofs.send.Tie as tie
-use Rattle.relaying.proofs.send.Reads as reads
-use Rattle.relaying.proofs.send.Lts as lts
-use Rattle.wire.proofs.copy.Reads as copy-reads
 
 -- src/lib.rt:45:17
 mul-start : tie.Need-mul-start

@@ -4,11 +4,6 @@ use Rattle.relaying.proofs.Laws.{stops-here, begin-asks, goes-further}
 use borrow.Author.Needs.{needs}
 use Rattle.relaying.proofs.step.Statement.{statement}
 use Rattle.relaying.proofs.step.Tie as tie
-use Rattle.relaying.proofs.step.Reads as reads
-use Rattle.relaying.proofs.step.Lts as lts
-use Rattle.relaying.proofs.begin.Reads as begin-reads
-use Rattle.relaying.proofs.goes_on.Reads as goes-on-reads
-use Rattle.relaying.proofs.hand.Reads as hand-reads
 
 -- src/lib.rt:138:9
 hand-requires : tie.Need-hand-requires

@@ -1,8 +1,6 @@
 use borrow.Author.Needs.{needs}
 use Rattle.route_calls.proofs.is_over.Statement.{statement}
 use Rattle.route_calls.proofs.is_over.Tie as tie
-use Rattle.route_calls.proofs.is_over.Reads as reads
-use Rattle.route_calls.proofs.is_over.Lts as lts
 
 -- src/lib.rt:222:25
 enum-known-stage : tie.Need-enum-known-stage

@@ -6,13 +6,6 @@ use Rattle.route_calls.proofs.Laws.{delivers-settled, delivers-short, r
 use borrow.Author.Needs.{needs}
 use Rattle.route_calls.proofs.take.Statement.{statement}
 use Rattle.route_calls.proofs.take.Tie as tie
-use Rattle.route_calls.proofs.take.Reads as reads
-use Rattle.route_calls.proofs.take.Lts as lts
-use Rattle.relaying.proofs.relay.Reads as relay-reads
-use Rattle.route_calls.proofs.is_over.Reads as is-over-reads
-use Rattle.route_calls.proofs.last_of.Reads as last-of-reads
-use Rattle.route_calls.proofs.untaken.Reads as untaken-reads
-use Rattle.wire.proofs.least.Reads as least-reads
 
 -- src/lib.rt:259:8
 is-over-requires : tie.Need-is-over-requires

@@ -8,12 +8,6 @@ use Rattle.route_calls.specs.Calls.{sessionIn}
 use borrow.Author.Needs.{needs}
 use Rattle.route_calls.proofs.Route.bound.Statement.{statement}
 use Rattle.route_calls.proofs.Route.bound.Tie as tie
-use Rattle.route_calls.proofs.Route.bound.Reads as reads
-use Rattle.route_calls.proofs.Route.bound.Lts as lts
-use Rattle.bound.proofs.address.Reads as address-reads
-use Rattle.bound.proofs.unbound.Reads as unbound-reads
-use Rattle.stages.proofs.is_open.Reads as is-open-reads
-use Rattle.wire.proofs.least.Reads as least-reads
 
 hold-long : (c : tie.Start) → length (c .args .self .hold) ≡ 261
 hold-long c = search needs

@@ -4,9 +4,6 @@ use Rattle.route_calls.proofs.Laws.{ends-like}
 use borrow.Author.Needs.{needs}
 use Rattle.route_calls.proofs.Route.end.Statement.{statement}
 use Rattle.route_calls.proofs.Route.end.Tie as tie
-use Rattle.route_calls.proofs.Route.end.Reads as reads
-use Rattle.route_calls.proofs.Route.end.Lts as lts
-use Rattle.stages.proofs.end.Reads as end-reads
 
 -- src/lib.rt:309:13
 end-requires : tie.Need-end-requires

@@ -3,9 +3,6 @@ use Rattle.session.specs.Session.{heldBytes}
 use borrow.Author.Needs.{needs}
 use Rattle.route_calls.proofs.Route.outcome.Statement.{statement}
 use Rattle.route_calls.proofs.Route.outcome.Tie as tie
-use Rattle.route_calls.proofs.Route.outcome.Reads as reads
-use Rattle.route_calls.proofs.Route.outcome.Lts as lts
-use Rattle.stages.proofs.outcome.Reads as outcome-reads
 
 -- src/lib.rt:333:9
 outcome-requires : tie.Need-outcome-requires

@@ -1,15 +1,10 @@
 use mathlib.Core.Path.{_≡_, sym, _∙_}
 use native.Mathlib.Omega.{arith}
 use lib.ListN.{length}
-use Rattle.route_calls.proofs.Laws.{size-has, opens-refused, opens-sized}
+use Rattle.route_opening.proofs.Laws.{size-has, opens-refused, opens-sized}
 use borrow.Author.Needs.{needs}
-use Rattle.route_calls.proofs.open.Statement.{statement}
-use Rattle.route_calls.proofs.open.Tie as tie
-use Rattle.route_calls.proofs.open.Reads as reads
-use Rattle.route_calls.proofs.open.Lts as lts
-use Rattle.route_calls.proofs.open_sized.Reads as open-sized-reads
-use Rattle.route_calls.proofs.refuse.Reads as refuse-reads
-use Rattle.route_calls.proofs.size_answer.Reads as size-answer-reads
+use Rattle.route_opening.proofs.open.Statement.{statement}
+use Rattle.route_opening.proofs.open.Tie as tie
 
 eight : (c : tie.Start) → length (c .args .proxies) ≡ 8
 eight c = search needs

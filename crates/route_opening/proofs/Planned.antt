@@ -21,9 +21,9 @@ use Rattle.routing.specs.Route.{Proxy, Asked, askedOf, openingFor, checkInTurn}
 use Rattle.routing.proofs.Asked.{asked-each}
 use Rattle.routing.proofs.Checks.{refused-or}
 use Rattle.routing.proofs.Rooms.{EachLimits, each-limits}
 use Rattle.route_calls.specs.declared.Opened.{Opened}
 use Rattle.route_calls.specs.Calls.{Call, refusal, emptyRoute, startedFor, begunWith, begins, openBy, opened, Opens}
-use Rattle.route_calls.proofs.Kept.{hops-row, bytes-row, hop-at, requests-at}
+use Rattle.route_opening.proofs.Kept.{hops-row, bytes-row, hop-at, requests-at}
 
 module _ (o : Opening) (os : List Opening) (w : EachLimits (o ∷ os)) where
   abbrev spareHops : List Hop

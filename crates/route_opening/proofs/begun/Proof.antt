@@ -1,10 +1,7 @@
-use Rattle.route_calls.proofs.Laws.{begins-as}
+use Rattle.route_opening.proofs.Laws.{begins-as}
 use borrow.Author.Needs.{needs}
-use Rattle.route_calls.proofs.begun.Statement.{statement}
-use Rattle.route_calls.proofs.begun.Tie as tie
-use Rattle.route_calls.proofs.begun.Reads as reads
-use Rattle.route_calls.proofs.begun.Lts as lts
-use Rattle.relaying.proofs.begin.Reads as begin-reads
+use Rattle.route_opening.proofs.begun.Statement.{statement}
+use Rattle.route_opening.proofs.begun.Tie as tie
 
 -- src/lib.rt:154:9
 slice-aggregate-begin : tie.Need-slice-aggregate-begin

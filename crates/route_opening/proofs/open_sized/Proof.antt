@@ -3,16 +3,10 @@ use mathlib.Core.Path.{_≡_, _∙_}
 use lib.ListN.{length, take, length-map}
 use lib.Seq.{length-take-le}
 use Rattle.planning.specs.Plan.{proxyOf, proxiesOf}
-use Rattle.route_calls.proofs.Planned.{planned-from, opens-accepted, opens-not}
+use Rattle.route_opening.proofs.Planned.{planned-from, opens-accepted, opens-not}
 use borrow.Author.Needs.{needs}
-use Rattle.route_calls.proofs.open_sized.Statement.{statement}
-use Rattle.route_calls.proofs.open_sized.Tie as tie
-use Rattle.route_calls.proofs.open_sized.Reads as reads
-use Rattle.route_calls.proofs.open_sized.Lts as lts
-use Rattle.planning.proofs.plan.Reads as plan-reads
-use Rattle.route_calls.proofs.begun.Reads as begun-reads
-use Rattle.route_calls.proofs.no_hops.Reads as no-hops-reads
-use Rattle.route_calls.proofs.refuse.Reads as refuse-reads
+use Rattle.route_opening.proofs.open_sized.Statement.{statement}
+use Rattle.route_opening.proofs.open_sized.Tie as tie
 
 eight : (c : tie.Start) → length (c .args .proxies) ≡ 8
 eight c = search needs

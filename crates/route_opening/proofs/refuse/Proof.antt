@@ -1,9 +1,6 @@
 use borrow.Author.Needs.{needs}
-use Rattle.route_calls.proofs.refuse.Statement.{statement}
-use Rattle.route_calls.proofs.refuse.Tie as tie
-use Rattle.route_calls.proofs.refuse.Reads as reads
-use Rattle.route_calls.proofs.refuse.Lts as lts
-use Rattle.route_calls.proofs.no_hops.Reads as no-hops-reads
+use Rattle.route_opening.proofs.refuse.Statement.{statement}
+use Rattle.route_opening.proofs.refuse.Tie as tie
 
 -- src/lib.rt:114:19
 no-hops-requires : tie.Need-no-hops-requires
