@@ -36,6 +36,8 @@ fn numbers_of(error: SocksError) -> Numbers
         SocksError::Settled => alone(16),
         SocksError::NotOpen => alone(17),
         SocksError::ShortText => alone(18),
+        SocksError::Malformed => alone(19),
+        SocksError::WrongCredentials => alone(20),
         SocksError::RouteLength => alone(21),
         SocksError::OutOfOrder => alone(22),
         SocksError::AnnouncesName => alone(23),

@@ -19,7 +19,7 @@ use Rattle.protocol.specs.declared.Verdict.the-variants.{Good, Bad}
 use Rattle.protocol.specs.declared.Decision.{Decision}
 use Rattle.protocol.specs.declared.Decision.the-variants.{Undecided, Decided}
 use Rattle.protocol.specs.declared.SocksError.{SocksError}
-use Rattle.protocol.specs.declared.SocksError.the-variants.{ShortOutput, MissingHost, HostByte, MissingPort, CredentialTooLong, HostTooLong, IpV6, DnsFailure, UnexpectedEof, Parsing, Unsupported, MethodMismatch, Failed, Command, Settled, NotOpen, ShortText, RouteLength, OutOfOrder, AnnouncesName}
+use Rattle.protocol.specs.declared.SocksError.the-variants.{ShortOutput, MissingHost, HostByte, MissingPort, CredentialTooLong, HostTooLong, IpV6, DnsFailure, UnexpectedEof, Parsing, Unsupported, MethodMismatch, Failed, Command, Settled, NotOpen, ShortText, Malformed, WrongCredentials, RouteLength, OutOfOrder, AnnouncesName}
 use Rattle.protocol.specs.declared.Answer.{Answer}
 use Rattle.protocol.specs.declared.Answer.the-variants.{Accepted, Refused}
 use Rattle.protocol.specs.declared.Outcome.{Outcome}
@@ -224,6 +224,8 @@ number-is (Command s) = (lit< tt, λ q. omega arith)
 number-is Settled = (lit< tt, λ q. omega arith)
 number-is NotOpen = (lit< tt, λ q. omega arith)
 number-is ShortText = (lit< tt, λ q. omega arith)
+number-is Malformed = (lit< tt, λ q. omega arith)
+number-is WrongCredentials = (lit< tt, λ q. omega arith)
 number-is RouteLength = (lit< tt, λ q. omega arith)
 number-is OutOfOrder = (lit< tt, λ q. omega arith)
 number-is AnnouncesName = (lit< tt, λ q. omega arith)

@@ -70,6 +70,8 @@ pub enum SocksError {
     Settled,
     NotOpen,
     ShortText,
+    Malformed,
+    WrongCredentials,
     RouteLength,
     OutOfOrder,
     AnnouncesName,

@@ -12,11 +12,9 @@ use Rattle.protocol.specs.declared.SocksError.{SocksError}
 use Rattle.protocol.specs.declared.SocksError.the-variants.{ShortOutput, RouteLength}
 use Rattle.protocol.specs.declared.Answer as code
 use Rattle.protocol.specs.declared.Answer.the-variants.{Accepted, Refused}
-use Rattle.protocol.specs.Bound.{unbound, boundOf}
 use Rattle.protocol.specs.Opening.{refuse}
 use Rattle.wire.specs.Written.{Wrote}
 use Rattle.wire.proofs.Laws.{wrote-length}
-use Rattle.sending.specs.declared.Stage.the-variants.{Open}
 use Rattle.relaying.specs.declared.Hop.{Hop}
 use Rattle.relaying.specs.declared.Spot.{Spot}
 use Rattle.relaying.specs.Relay.{goesAt, begunSpot}
@@ -27,6 +25,7 @@ use Rattle.routing.specs.Route.{roomFor, asked, askedOf, openingFor, unlessRefu
 use Rattle.route_calls.specs.declared.Route.{Route}
 use Rattle.route_calls.specs.declared.Opened.{Opened}
 use Rattle.route_calls.proofs.Laws.{written}
+use Rattle.route_opening.specs.First.{freshSpot, openedAt}
 use Rattle.route_calls.specs.Calls.{Call, refusal, emptyRoute, begunWith, begins, openBy, sizeAnswer, opening, opened, Opens}
 
 -- ---- the size of a route
@@ -67,22 +66,16 @@ size-has count out = go (eqb count 0) (ltb 8 count) (ltb out (1024 * count)) ref
 
 -- ---- the first proxy begun
 
-module _ (hops : List Hop) (count : ℕ) (bytes out : List ℕ) where
-  abbrev fresh : Spot
-  fresh = record { behind = count; stage = Open; held = 0; bound = boundOf unbound; attempts = 0; sent = 0 }
-
-  pub begins-as : (s : Spot) → s ≡ begunSpot hops fresh (s .sent) → {out′ : List ℕ} → Wrote out 0 (goesAt hops bytes (s .behind)) (s .sent) out′
-      → Opens (begins (begunWith hops bytes count) (goesAt hops bytes (count - 1)) out)
-      (record { answer = Accepted; sent = s .sent; route = record { stage = s .stage; held = 0; hold = replicate 261 0; bound = s .bound; attempts = 0; count = count; behind = s .behind; hops = hops; bytes = bytes } })
-      out′
-  begins-as s b {out′} w =
-      let (l, o) = written w in
-      let g : length (goesAt hops bytes (s .behind)) ≡ length (goesAt hops bytes (count - 1)) = ap (λ (x : Spot). length (goesAt hops bytes (x .behind))) b in
-      record {
-        returned = λ i. record { answer = Accepted; sent = (l ∙ g) i; route = record { stage = b i .stage; held = 0; hold = replicate 261 0; bound = b i .bound; attempts = 0; count = count; behind = b i .behind; hops = hops; bytes = bytes } };
-        output = o ∙ ap (λ (x : Spot). goesAt hops bytes (x .behind) ++ drop (length (goesAt hops bytes (x .behind))) out) b;
-        inside = omega (arith, w .inside, w .place, wrote-length w);
-      }
+pub begins-as : (hops : List Hop) (count : ℕ) (bytes out : List ℕ) (s : Spot) → s ≡ begunSpot hops (freshSpot count) (s .sent) → {out′ : List ℕ} → Wrote out 0 (goesAt hops bytes (s .behind)) (s .sent) out′
+    → {r : Opened} → r ≡ openedAt hops count bytes s → Opens (begins (begunWith hops bytes count) (goesAt hops bytes (count - 1)) out) r out′
+begins-as hops count bytes out s b {out′} w {r} q =
+    let (l, o) = written w in
+    let g : length (goesAt hops bytes (s .behind)) ≡ length (goesAt hops bytes (count - 1)) = ap (λ (x : Spot). length (goesAt hops bytes (x .behind))) b in
+    record {
+      returned = q ∙ (λ i. record { answer = Accepted; sent = (l ∙ g) i; route = record { stage = b i .stage; held = 0; hold = replicate 261 0; bound = b i .bound; attempts = 0; count = count; behind = b i .behind; hops = hops; bytes = bytes } });
+      output = o ∙ ap (λ (x : Spot). goesAt hops bytes (x .behind) ++ drop (length (goesAt hops bytes (x .behind))) out) b;
+      inside = rw q (omega (arith, w .inside, w .place, wrote-length w));
+    }
 
 -- ---- the route that is meant
 

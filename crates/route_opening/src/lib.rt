@@ -1,13 +1,15 @@
 // Opening a route: all openings prepared, and the first proxy begun.
 ghost use mathlib.Core.Path.{_≡_};
 ghost use mathlib.Core.List.{map};
-ghost use Prim.Native.Nat.{_-_, _≤_, _<_};
+ghost use Prim.Native.Nat.{_≤_, _<_};
 ghost use lib.ListN.{length, take, replicate};
 ghost use Rattle.protocol.specs.declared.Answer.the-variants as Answer;
 ghost use Rattle.routing.specs.Route.{askedOf, openingFor, checkInTurn};
-ghost use Rattle.relaying.specs.Relay.{noHop, goesAt};
+ghost use Rattle.wire.specs.Written.{Wrote};
+ghost use Rattle.relaying.specs.Relay.{noHop, goesAt, begunSpot};
 ghost use Rattle.planning.specs.Plan.{proxiesOf, routeOf};
-ghost use Rattle.route_calls.specs.Calls.{emptyRoute, begunWith, begins, openBy, sizeAnswer, opening, Opens};
+ghost use Rattle.route_opening.specs.First.{freshSpot, openedAt};
+ghost use Rattle.route_calls.specs.Calls.{emptyRoute, openBy, sizeAnswer, opening, Opens};
 use planning::Proxy;
 use planning::plan;
 use protocol::AddressKind;
@@ -81,11 +83,12 @@ fn size_answer(count: usize, room: usize) -> Answer
 }
 
 // All openings are prepared: the first proxy is begun.
-fn begun(hops: [Hop; 8], count: usize, bytes: [u8; 8192], out: &mut [u8]) -> Opened
-    requires { ⌜ (0 < count) × ((count ≤ 8) × (1024 ≤ length (now out))) ⌝ }
-    ensures { λ r. ⌜ Opens (begins (begunWith hops bytes count) (goesAt hops bytes (count - 1)) (now (out .entry))) r (now (out .exit)) ⌝ }
+fn begin_first(hops: [Hop; 8], count: usize, bytes: &[u8], out: &mut [u8]) -> Spot
+    requires { ⌜ (0 < count) × ((count ≤ 8) × ((length (now bytes) ≡ 8192) × (1024 ≤ length (now out)))) ⌝ }
+    ensures { λ r. ⌜ r ≡ begunSpot hops (freshSpot count) (r .sent) ⌝ }
+    ensures { λ r. ⌜ Wrote (now (out .entry)) 0 (goesAt hops (now (bytes .entry)) (r .behind)) (r .sent) (now (out .exit)) ⌝ }
 {
-    let spot = begin(
+    begin(
         hops,
         Spot {
             behind: count,
@@ -98,9 +101,14 @@ fn begun(hops: [Hop; 8], count: usize, bytes: [u8; 8192], out: &mut [u8]) -> Ope
             attempts: 0,
             sent: 0,
         },
-        &bytes,
+        bytes,
         out,
-    );
+    )
+}
+
+fn begun(hops: [Hop; 8], count: usize, bytes: [u8; 8192], spot: Spot) -> Opened
+    ensures { λ r. ⌜ r ≡ openedAt hops count bytes spot ⌝ }
+{
     let stage = spot.stage;
     let bound = spot.bound;
     Opened {
@@ -137,7 +145,7 @@ fn open_sized(
     let answer = planned.answer;
     let hops = planned.hops;
     match answer {
-        Answer::Accepted => begun(hops, count, bytes, out),
+        Answer::Accepted => begun(hops, count, bytes, begin_first(hops, count, &bytes, out)),
         Answer::Refused(error) => refuse(error),
     }
 }

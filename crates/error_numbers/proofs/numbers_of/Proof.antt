@@ -119,6 +119,18 @@ enum-told-19 c = search needs
 alone-requires-19 : tie.Need-alone-requires-19
 alone-requires-19 c κs = search needs
 
+enum-told-20 : tie.Need-enum-told-20
+enum-told-20 c = search needs
+
+alone-requires-20 : tie.Need-alone-requires-20
+alone-requires-20 c κs = search needs
+
+enum-told-21 : tie.Need-enum-told-21
+enum-told-21 c = search needs
+
+alone-requires-21 : tie.Need-alone-requires-21
+alone-requires-21 c κs = search needs
+
 returns : tie.Need-returns
 returns c = rw (c .before .enum-told .given .1) (c .alone .ensures)
 
@@ -179,6 +191,12 @@ returns-19 c = rw (c .before .enum-told18 .given .1) (c .alone18 .ensures)
 returns-20 : tie.Need-returns-20
 returns-20 c = rw (c .before .enum-told19 .given .1) (c .alone19 .ensures)
 
+returns-21 : tie.Need-returns-21
+returns-21 c = rw (c .before .enum-told20 .given .1) (c .alone20 .ensures)
+
+returns-22 : tie.Need-returns-22
+returns-22 c = rw (c .before .enum-told21 .given .1) (c .alone21 .ensures)
+
 pub numbers-of-spec : {M : Type 1} → statement M
 numbers-of-spec =
     tie.close
@@ -222,6 +240,10 @@ numbers-of-spec =
     alone-requires-18
     enum-told-19
     alone-requires-19
+    enum-told-20
+    alone-requires-20
+    enum-told-21
+    alone-requires-21
     returns
     returns-2
     returns-3
@@ -241,4 +263,6 @@ numbers-of-spec =
     returns-17
     returns-18
     returns-19
-    returns-20)
+    returns-20
+    returns-21
+    returns-22)

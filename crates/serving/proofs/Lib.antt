@@ -1,0 +1,9 @@
+pub mod Seen
+pub mod Words
+pub mod Texts
+pub mod Requests
+pub mod Open
+pub mod OpenRequests
+pub mod Unknown
+pub mod Side
+pub mod Feed

@@ -1,0 +1,4 @@
+pub mod Words
+pub mod Reads
+pub mod End
+pub mod Side
