@@ -33,7 +33,7 @@ fn lacks_port(port: Port) -> bool
     }
 }
 
-fn credentials_too_long(auth: bool, user: &[u8], password: &[u8]) -> bool
+pub fn credentials_too_long(auth: bool, user: &[u8], password: &[u8]) -> bool
     ensures { λ r. ⌜ r ≡ (auth && (ltb 255 (length (now (user .entry))) || ltb 255 (length (now (password .entry))))) ⌝ }
 {
     auth && (255 < user.len() || 255 < password.len())

@@ -18,7 +18,7 @@ use Rattle.session.specs.Calls.{keptBy, preparedBy, prepare5, prepare4}
 use Rattle.wire.specs.Written.{overwrite}
 use Rattle.wire.proofs.Parts.{take-min}
 use Rattle.relaying.specs.declared.Hop.{Hop}
-use Rattle.routing.specs.declared.Version.the-variants as Version
+use Rattle.protocol.specs.declared.Version.the-variants as Version
 use Rattle.routing.specs.Route.{hostOf, portOf, Asked, over5, over4, askedBy, askedOf, openingFor, checkFor, unlessRefused, checkInTurn}
 use Rattle.routing.proofs.Asked.{asked-each}
 use Rattle.planning.specs.declared.Proxy.{Proxy}

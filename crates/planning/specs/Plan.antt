@@ -19,7 +19,7 @@ use Rattle.session.specs.declared.Session.{Session}
 use Rattle.session.specs.declared.Prepared.{Prepared}
 use Rattle.session.specs.Calls.{keptBy, prepare5, prepare4}
 use Rattle.relaying.specs.declared.Hop.{Hop}
-use Rattle.routing.specs.declared.Version.the-variants as Version
+use Rattle.protocol.specs.declared.Version.the-variants as Version
 use Rattle.routing.specs.Route as route
 use Rattle.routing.specs.Route.{Asked, over5, over4, openingFor, checkInTurn}
 use Rattle.planning.specs.declared.Proxy.{Proxy}

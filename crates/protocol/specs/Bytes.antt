@@ -1,11 +1,16 @@
 -- Byte strings are lists of numbers.
 use Prim.Native.Nat.{ℕ, _+_, _*_, _-_, _≤_, _/_, _%_}
-use mathlib.Core.List.{List, [], _∷_, _++_}
+use mathlib.Core.List.{List, [], _∷_, _++_, List·Memᴰ}
 use lib.ListN.{length, replicate, getD}
+use Rattle.talk.specs.Tunnel.{Delivery}
 
 -- each number is a byte's
 abbrev pub Bytes : List ℕ → Type 0
 Bytes bs = (i : ℕ) → getD bs i 0 ≤ 255
+
+-- each delivery's piece is a byte string, as a slice of bytes is
+abbrev pub BytePieces : List Delivery → Type 0
+BytePieces ds = (d : Delivery) → List·Memᴰ d ds → Bytes (d .piece)
 
 -- byte i, counted from 0
 abbrev pub byte : List ℕ → ℕ → ℕ

@@ -1,5 +1,11 @@
 // The plain data that the definitions in specs/ and the code above share. There is no function.
 
+// The version that a proxy speaks.
+pub enum Version {
+    V4,
+    V5,
+}
+
 // The methods of RFC 1928, section 3, that the client knows.
 pub enum AuthMethod {
     NoAuth,

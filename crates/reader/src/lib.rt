@@ -2,7 +2,9 @@
 // they stand. Its method leaves the work to a function on the slices and a place.
 ghost use mathlib.Core.Path.{_≡_};
 ghost use mathlib.Core.List.{_++_};
-ghost use Prim.Native.Nat.{_+_, _≤_};
+ghost use Prim.Native.Nat.{_+_, _≤_, _<_};
+ghost use lib.ListN.{drop};
+ghost use Rattle.protocol.specs.Bytes.{byte, twoOf};
 ghost use Rattle.reader.specs.Reader.{byteAt, bytesAt, twoAt, threeAt};
 
 pub struct Reader<'a, 'b> {
@@ -42,6 +44,30 @@ pub fn byte_at(held: &[u8], piece: &[u8], at: usize) -> Took
         came: false,
         at,
     }
+}
+
+// A byte of the held bytes and then the piece; 0 behind them.
+pub fn byte(held: &[u8], piece: &[u8], i: usize) -> u8
+    ensures { λ r. ⌜ r ≡ byte (now (held .entry) ++ now (piece .entry)) i ⌝ }
+{
+    let took = byte_at(held, piece, i);
+    took.byte
+}
+
+fn digit(b: u8) -> u16
+    ensures { λ r. ⌜ (r ≡ b) × (r < 256) ⌝ }
+{
+    b as u16
+}
+
+// A field of two bytes, most significant first.
+pub fn port_at(held: &[u8], piece: &[u8], at: usize) -> u16
+    requires { ⌜ at < 1000 ⌝ }
+    ensures { λ r. ⌜ r ≡ twoOf (drop at (now (held .entry) ++ now (piece .entry))) ⌝ }
+{
+    let first = byte(held, piece, at);
+    let second = byte(held, piece, at + 1);
+    digit(first) * 256 + digit(second)
 }
 
 // Whether so many bytes came, and the place behind them. Where they have not all come the place stays.

@@ -18,7 +18,7 @@ use Rattle.sending.specs.Parts.{requestsOf, firstOf}
 use Rattle.session.specs.Calls.{keptBy}
 use Rattle.session.specs.Session.{view}
 use Rattle.openings.proofs.KeptBy.{kept-parts, kept-by}
-use Rattle.socks.specs.Demand3.{BytePieces}
+use Rattle.protocol.specs.Bytes.{BytePieces}
 use Rattle.socks.proofs.Refusals.{clash}
 use Rattle.relaying.specs.declared.Hop as relaying
 use Rattle.planning.specs.Plan.{hopFor, hopsFor, bytesFor}

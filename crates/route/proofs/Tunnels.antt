@@ -10,7 +10,7 @@ use lib.Dec.{leb}
 use Rattle.protocol.specs.declared.SocksError.the-variants.{ShortOutput, Settled}
 use Rattle.protocol.specs.declared.Reply.{Reply}
 use Rattle.protocol.specs.declared.Outcome.the-variants as Out
-use Rattle.protocol.specs.Bytes.{Bytes}
+use Rattle.protocol.specs.Bytes.{BytePieces, Bytes}
 use Rattle.protocol.specs.Bound.{addressOf}
 use Rattle.protocol.specs.Opening.{Opening}
 use Rattle.protocol.specs.Machine.{Machine}
@@ -18,7 +18,6 @@ use Rattle.protocol.specs.Client as client
 use Rattle.sending.specs.Stages.{SideSession}
 use Rattle.session.specs.Session.{view}
 use Rattle.session.specs.Calls as session
-use Rattle.socks.specs.Demand3.{BytePieces}
 use Rattle.socks.proofs.Tunnels as socks
 use Rattle.relaying.specs.declared.Hop as relaying
 use Rattle.relaying.specs.Relay.{Relay, relayed}

@@ -15,7 +15,7 @@ use Rattle.protocol.specs.Opening.{Opening}
 use Rattle.protocol.specs.Machine.{machine}
 use Rattle.session.specs.Session as session
 use Rattle.session.specs.Calls as session-calls
-use Rattle.socks.specs.Demand3.{BytePieces}
+use Rattle.protocol.specs.Bytes.{BytePieces}
 use Rattle.socks.specs.InTwo.{inTwo}
 use Rattle.socks.specs.Attempts.{attemptsOf}
 use Rattle.planning.specs.Plan.{preparedFor}

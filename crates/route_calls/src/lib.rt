@@ -24,7 +24,7 @@ use stages::is_open;
 use wire::least;
 
 // How the proxy that is spoken to stands, as a session does; how many proxies there are, and how many are behind that one; and what each
-// keeps, the last one's first, with 1,024 bytes each. The last three never change, but for `behind`.
+// keeps, the last one's first, with 1,024 bytes each. `count`, `hops` and `bytes` never change.
 pub struct Route {
     pub stage: Stage,
     pub held: usize,

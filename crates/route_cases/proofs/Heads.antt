@@ -9,7 +9,7 @@ use lib.ListN.{length, getD, take, set, length-set}
 use lib.Seq.{take-suc-set}
 use borrow.Author.Tests.{lt-ltb, le-ltb}
 use Rattle.protocol.specs.declared.Port.{Port}
-use Rattle.routing.specs.declared.Version.{Version}
+use Rattle.protocol.specs.declared.Version.{Version}
 use Rattle.planning.specs.declared.Part.{Part}
 use Rattle.planning.specs.declared.Proxy.{Proxy}
 use Rattle.cases.specs.Cases.{numberAt, flag, portOf, isVersion}

@@ -6,8 +6,8 @@ use mathlib.Core.List.{List, [], _∷_, _++_}
 use lib.Dec.{ltb, eqb}
 use lib.ListN.{length, getD, take, replicate}
 use Rattle.protocol.specs.declared.Port.the-variants.{Missing}
-use Rattle.routing.specs.declared.Version.{Version}
-use Rattle.routing.specs.declared.Version.the-variants.{V4, V5}
+use Rattle.protocol.specs.declared.Version.{Version}
+use Rattle.protocol.specs.declared.Version.the-variants.{V4, V5}
 use Rattle.planning.specs.declared.Part.{Part}
 use Rattle.planning.specs.declared.Proxy.{Proxy}
 use Rattle.planning.specs.Plan.{noProxy}

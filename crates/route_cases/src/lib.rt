@@ -15,7 +15,7 @@ use input::Input;
 use planning::Part;
 use planning::Proxy;
 use protocol::Port;
-use routing::Version;
+use protocol::Version;
 
 // The largest proxy: four bytes and three texts of 65,535 bytes.
 const PROXY: usize = 196615;

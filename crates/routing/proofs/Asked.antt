@@ -4,8 +4,8 @@ use mathlib.Core.Path.{_≡_, refl, ap}
 use mathlib.Core.List.{List, [], _∷_, _++_}
 use lib.ListN.{length}
 use Rattle.protocol.specs.declared.Port.{Port}
-use Rattle.routing.specs.declared.Version.{Version}
-use Rattle.routing.specs.declared.Version.the-variants.{V4, V5}
+use Rattle.protocol.specs.declared.Version.{Version}
+use Rattle.protocol.specs.declared.Version.the-variants.{V4, V5}
 use Rattle.routing.specs.Route.{Proxy, hostOf, portOf, Asked, askedBy, askedOf, asked}
 
 -- proxies ahead of another are asked as for a route to that one

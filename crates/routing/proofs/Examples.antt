@@ -15,7 +15,7 @@ use Rattle.protocol.specs.Opening.{announces, check5, check4, opening5, opening
 use Rattle.protocol.specs.Replies.{negotiationVerdict, responseVerdict, headAllowed, typeAllowed, proxySize, proxyVerdict, proxyAt, decide}
 use Rattle.protocol.specs.Machine.{Machine, has, run, machine}
 use Rattle.protocol.specs.Examples.{text}
-use Rattle.routing.specs.declared.Version.the-variants.{V4, V5}
+use Rattle.protocol.specs.declared.Version.the-variants.{V4, V5}
 use Rattle.routing.specs.Route.{Proxy, Route, askedOf, openings, checkInTurn, check, machinesFrom, machines}
 
 -- a v5 proxy with credentials that sends optimistically, a v4 proxy, and a plain v5 proxy

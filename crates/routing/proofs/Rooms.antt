@@ -11,8 +11,8 @@ use Rattle.protocol.specs.declared.Outcome.the-variants.{Waiting, Open, Failed}
 use Rattle.protocol.specs.Opening.{Opening, v5, v4, Limits}
 use Rattle.protocol.specs.Machine.{Machine, machine}
 use Rattle.protocol.proofs.Limits.{limits5, limits4, sent-within}
-use Rattle.routing.specs.declared.Version.{Version}
-use Rattle.routing.specs.declared.Version.the-variants.{V4, V5}
+use Rattle.protocol.specs.declared.Version.{Version}
+use Rattle.protocol.specs.declared.Version.the-variants.{V4, V5}
 use Rattle.routing.specs.Route.{Proxy, hostOf, portOf, askedBy, askedOf, openingFor, roomFor, checkFor, followed, machinesFrom, machines}
 use Rattle.routing.proofs.Checks.{EachAccepted}
 

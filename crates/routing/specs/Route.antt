@@ -16,8 +16,8 @@ use Rattle.protocol.specs.Bound.{Endpoint, unbound}
 use Rattle.protocol.specs.Opening.{V5, V4, Condition, _↣_, conditions5, conditions4, refuse, check5, check4, Opening, opening5, opening4}
 use Rattle.protocol.specs.Machine.{Machine, has, machine, usedBy}
 use Rattle.protocol.specs.Grammar.{Sequence}
-use Rattle.routing.specs.declared.Version as version
-use Rattle.routing.specs.declared.Version.the-variants as Version
+use Rattle.protocol.specs.declared.Version as version
+use Rattle.protocol.specs.declared.Version.the-variants as Version
 use Rattle.talk.specs.Lawful.{Begins}
 
 -- ---- the route

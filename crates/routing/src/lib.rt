@@ -1,7 +1,1 @@
-// Routes: the plain data that their definitions and the code above share. There is no function.
-
-// The version that a proxy speaks.
-pub enum Version {
-    V4,
-    V5,
-}
+// Definitions of routes and their laws, in specs/ and proofs/. There is no function.

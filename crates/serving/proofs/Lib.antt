@@ -1,3 +1,4 @@
+pub mod Worked
 pub mod Seen
 pub mod Words
 pub mod Texts
@@ -7,3 +8,4 @@ pub mod OpenRequests
 pub mod Unknown
 pub mod Side
 pub mod Feed
+pub mod Fits

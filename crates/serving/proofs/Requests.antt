@@ -17,7 +17,7 @@ use Rattle.protocol.specs.Requests.{Announces}
 use Rattle.protocol.specs.Opening.{announces}
 use Rattle.protocol.proofs.Tests.{both}
 use Rattle.serving.specs.Words.{Unbroken, Request, addressed, announced}
-use Rattle.serving.specs.Reads.{Seen, short, wrong, unknown, whole, from, textIn, further, portIn, nameIn, behindUser, requestIn}
+use Rattle.serving.specs.Reads.{Seen, short, wrong, unknown, whole, textIn, further, portIn, nameIn, behindUser, requestIn}
 use Rattle.serving.proofs.Seen.{Decided, Late, Ext, late-cond, late-held, late-from, late-less, ext-from, ext-cond, ext-held, ext-whole, from-inv, held-inv, whole-inv, settled, early, itself, just}
 use Rattle.serving.proofs.Words.{longer, part-same, two-same, parts2, drop-same}
 use Rattle.serving.proofs.Texts.{text-extends, Text, text-is, text-of}

@@ -11,11 +11,14 @@ use borrow.Author.Tests.{leb-true, leb-false, le-leb, eqb-true, eq-eqb}
 use Rattle.protocol.specs.declared.SocksError.{SocksError}
 use Rattle.protocol.specs.declared.SocksError.the-variants.{Malformed}
 use Rattle.protocol.specs.Bytes.{Bytes, byte}
-use Rattle.protocol.specs.Bound.{Endpoint}
+use Rattle.protocol.specs.AddressReading.{Destination}
 use Rattle.protocol.specs.Opening.{announces}
 use Rattle.serving.specs.Reads.{Seen, short, wrong, unknown, whole, textIn}
 use Rattle.serving.specs.End.{Setup, chosen, offers, same}
-use Rattle.serving.specs.Side.{Stage, first, methods, user, password, head, address, ports, userId, name, once, test, readAddress, readText, readName, reads, EndTalk, atAddress, isKnown, atHead, atPassword, atUser, atMethods, unlessOther4, atName, atUserId, atPorts, talkAt, server}
+use Rattle.serving.specs.declared.Ports.{Ports}
+use Rattle.serving.specs.declared.Field.{Field}
+use Rattle.serving.specs.declared.Field.the-variants.{First, Methods, User, Password, Head, Address, Request, UserId, Name}
+use Rattle.serving.specs.Side.{once, test, readAddress, readText, readName, reads, EndTalk, atAddress, isKnown, atHead, atPassword, atUser, atMethods, portsOf, ipOf, unlessOther4, atName, atUserId, atRequest, talkAt, server}
 use Rattle.talk.specs.Decision.{Decision, undecided, decided, good, bad}
 use Rattle.talk.specs.Lawful.{Late, Extends, waits, stays, Shaped, Lawful}
 
@@ -67,14 +70,14 @@ ext-counted k bs more h =
     λ h1. rw (List·getD-append bs more 0 0 (omega arith))
     (ext-cond (length bs) (leb 1 (byte bs 0)) _ _ _ _ (ext-size (k + byte bs 0) bs more) (stays h1))
 
-ext-first : (bs more : List ℕ) → Extends (length bs) (reads first bs) (reads first (bs ++ more))
+ext-first : (bs more : List ℕ) → Extends (length bs) (reads First bs) (reads First (bs ++ more))
 unfolding reads
 ext-first bs more =
     ext-once 1 bs (bs ++ more) _ _ (longer bs more)
     (late-cond (eqb (byte (bs ++ more) 0) 0x05 || eqb (byte (bs ++ more) 0) 0x04) 1 _ (decided 1 (bad Malformed)) (le-refl 1) (le-refl 1))
     λ h. rw (List·getD-append bs more 0 0 (omega arith)) (ext-cond (length bs) (eqb (byte bs 0) 0x05 || eqb (byte bs 0) 0x04) _ _ _ _ (stays h) (stays h))
 
-ext-user : (bs more : List ℕ) → Extends (length bs) (reads user bs) (reads user (bs ++ more))
+ext-user : (bs more : List ℕ) → Extends (length bs) (reads User bs) (reads User (bs ++ more))
 unfolding reads
 ext-user bs more =
     ext-once 1 bs (bs ++ more) _ _ (longer bs more)
@@ -86,13 +89,13 @@ ext-user bs more =
     λ h2. rw (List·getD-append bs more 0 1 (omega arith)) (ext-size (2 + byte bs 1) bs more))
     (stays h))
 
-ext-password : (right : Bool) (bs more : List ℕ) → Extends (length bs) (reads (password right) bs) (reads (password right) (bs ++ more))
+ext-password : (right : Bool) (bs more : List ℕ) → Extends (length bs) (reads (Password right) bs) (reads (Password right) (bs ++ more))
 unfolding reads
 ext-password right bs more =
     ext-once 1 bs (bs ++ more) _ _ (longer bs more) (late-size 1 (1 + byte (bs ++ more) 0) (bs ++ more) (omega arith))
     λ h. rw (List·getD-append bs more 0 0 (omega arith)) (ext-size (1 + byte bs 0) bs more)
 
-ext-head : (bs more : List ℕ) → Extends (length bs) (reads head bs) (reads head (bs ++ more))
+ext-head : (bs more : List ℕ) → Extends (length bs) (reads Head bs) (reads Head (bs ++ more))
 unfolding reads
 ext-head bs more =
     ext-once 1 bs (bs ++ more) _ _ (longer bs more)
@@ -250,17 +253,17 @@ ext-name : (n : ℕ) (s t : Seen ℕ) → SeenOn n s t → Extends n (readName s
 ext-name n _ t (unseen p) = waits (late-name (suc n) t p)
 ext-name n s _ (seen p) = same-name n s p
 
-pub extends : (s : Stage) (bs more : List ℕ) → Extends (length bs) (reads s bs) (reads s (bs ++ more))
+pub extends : (s : Field) (bs more : List ℕ) → Extends (length bs) (reads s bs) (reads s (bs ++ more))
 unfolding reads
-extends first bs more = ext-first bs more
-extends methods bs more = ext-counted 1 bs more (lit≤ tt)
-extends user bs more = ext-user bs more
-extends (password right) bs more = ext-password right bs more
-extends head bs more = ext-head bs more
-extends (address command type) bs more = ext-address type bs more
-extends ports bs more = ext-size 7 bs more
-extends (userId before) bs more = ext-text (length bs) (textIn 255 bs) (textIn 255 (bs ++ more)) (on-text 255 bs more)
-extends (name before) bs more = ext-name (length bs) (textIn 1014 bs) (textIn 1014 (bs ++ more)) (on-text 1014 bs more)
+extends First bs more = ext-first bs more
+extends Methods bs more = ext-counted 1 bs more (lit≤ tt)
+extends User bs more = ext-user bs more
+extends (Password right) bs more = ext-password right bs more
+extends Head bs more = ext-head bs more
+extends (Address command type) bs more = ext-address type bs more
+extends Request bs more = ext-size 7 bs more
+extends (UserId p) bs more = ext-text (length bs) (textIn 255 bs) (textIn 255 (bs ++ more)) (on-text 255 bs more)
+extends (Name p) bs more = ext-name (length bs) (textIn 1014 bs) (textIn 1014 (bs ++ more)) (on-text 1014 bs more)
 
 -- ---- wherever it waits, what is left to do is what the stage says
 
@@ -285,44 +288,44 @@ module _ (c : Setup) where
   shaped-methods =
       (refl, λ m. either (offers (chosen (c .authenticates)) (drop 1 m)) _ _ (either (c .authenticates) (atUser c) atHead shaped-user shaped-head) tt)
 
-  shaped-request : (before : List ℕ) (x : Endpoint) → Shaped (server c) (unlessOther4 c before x)
-  shaped-request before x = either (c .authenticates) _ _ tt (either (eqb (byte before 0) 1) _ _ tt tt)
+  shaped-other : (p : Ports) (d : Destination) → Shaped (server c) (unlessOther4 c p d)
+  shaped-other p d = either (c .authenticates) _ _ tt (either (eqb (p .command) 1) _ _ tt tt)
 
-  shaped-name : (before : List ℕ) → Shaped (server c) (atName c before)
-  shaped-name before = (refl, λ m. shaped-request before _)
+  shaped-name : (p : Ports) → Shaped (server c) (atName c p)
+  shaped-name p = (refl, λ m. shaped-other p _)
 
-  shaped-id : (before : List ℕ) → Shaped (server c) (atUserId c before)
-  shaped-id before = (refl, λ m. either (announces (drop 3 before)) _ _ (shaped-name before) (shaped-request before _))
+  shaped-id : (p : Ports) → Shaped (server c) (atUserId c p)
+  shaped-id p = (refl, λ m. either (announces (ipOf p)) _ _ (shaped-name p) (shaped-other p _))
 
-  shaped-ports : Shaped (server c) (atPorts c)
-  shaped-ports = (refl, λ m. shaped-id m)
+  shaped-request : Shaped (server c) (atRequest c)
+  shaped-request = (refl, λ m. shaped-id (portsOf m))
 
-  shaped-at : (s : Stage) → Shaped (server c) (talkAt c s)
-  shaped-at first = (refl, λ m. either (eqb (byte m 0) 0x05) _ _ shaped-methods shaped-ports)
-  shaped-at methods = shaped-methods
-  shaped-at user = shaped-user
-  shaped-at (password right) = shaped-password right
-  shaped-at head = shaped-head
-  shaped-at (address command type) = shaped-address command type
-  shaped-at ports = shaped-ports
-  shaped-at (userId before) = shaped-id before
-  shaped-at (name before) = shaped-name before
+  shaped-at : (s : Field) → Shaped (server c) (talkAt c s)
+  shaped-at First = (refl, λ m. either (eqb (byte m 0) 0x05) _ _ shaped-methods shaped-request)
+  shaped-at Methods = shaped-methods
+  shaped-at User = shaped-user
+  shaped-at (Password right) = shaped-password right
+  shaped-at Head = shaped-head
+  shaped-at (Address command type) = shaped-address command type
+  shaped-at Request = shaped-request
+  shaped-at (UserId p) = shaped-id p
+  shaped-at (Name p) = shaped-name p
 
 pub server-lawful : (c : Setup) → Lawful (server c)
 server-lawful c = record { stable = extends; shaped = shaped-at c }
 
 -- ---- how many bytes are held: the most that leave a field undecided
 
-abbrev pub most : Stage → ℕ
-most first = 0
-most methods = 255
-most user = 256
-most (password right) = 255
-most head = 3
-most (address command type) = cond (eqb type 0x01) 5 (cond (eqb type 0x04) 17 257)
-most ports = 6
-most (userId before) = 255
-most (name before) = 1014
+abbrev pub most : Field → ℕ
+most First = 0
+most Methods = 255
+most User = 256
+most (Password right) = 255
+most Head = 3
+most (Address command type) = cond (eqb type 0x01) 5 (cond (eqb type 0x04) 17 257)
+most Request = 6
+most (UserId p) = 255
+most (Name p) = 1014
 
 -- undecided, they are at most n
 abbrev Bounded : ℕ → List ℕ → Read → Type 0
@@ -369,44 +372,44 @@ bounded-name n bs (unknown k) h = tt
 bounded-name n bs (whole k zero) h = tt
 bounded-name n bs (whole k (suc m)) h = tt
 
-bounded : (s : Stage) (bs : List ℕ) → byte bs 0 ≤ 255 → byte bs 1 ≤ 255 → Bounded (most s) bs (reads s bs)
+bounded : (s : Field) (bs : List ℕ) → byte bs 0 ≤ 255 → byte bs 1 ≤ 255 → Bounded (most s) bs (reads s bs)
 unfolding reads
-bounded first bs y z = bounded-once 1 0 bs _ (le-refl 1) (λ l. bounded-test (eqb (byte bs 0) 0x05 || eqb (byte bs 0) 0x04) 1 0 bs (decided 1 good) tt)
-bounded methods bs y z = bounded-counted 1 255 bs (le-refl 1) (omega arith)
-bounded user bs y z =
+bounded First bs y z = bounded-once 1 0 bs _ (le-refl 1) (λ l. bounded-test (eqb (byte bs 0) 0x05 || eqb (byte bs 0) 0x04) 1 0 bs (decided 1 good) tt)
+bounded Methods bs y z = bounded-counted 1 255 bs (le-refl 1) (omega arith)
+bounded User bs y z =
     bounded-once 1 256 bs _ (lit≤ tt)
     λ l. bounded-test (eqb (byte bs 0) 0x01) 1 256 bs _ (bounded-once 2 256 bs _ (lit≤ tt) (λ l. bounded-size (2 + byte bs 1) 256 bs (omega arith)))
-bounded (password right) bs y z = bounded-once 1 255 bs _ (lit≤ tt) (λ l. bounded-size (1 + byte bs 0) 255 bs (omega arith))
-bounded head bs y z =
+bounded (Password right) bs y z = bounded-once 1 255 bs _ (lit≤ tt) (λ l. bounded-size (1 + byte bs 0) 255 bs (omega arith))
+bounded Head bs y z =
     bounded-once 1 3 bs _ (lit≤ tt)
     λ l. bounded-test (eqb (byte bs 0) 0x05) 1 3 bs _
     (bounded-once 3 3 bs _ (lit≤ tt) (λ l. bounded-test (eqb (byte bs 2) 0x00) 3 3 bs _ (bounded-size 4 3 bs (le-refl 4))))
-bounded (address command type) bs y z = bounded-address type bs y
-bounded ports bs y z = bounded-size 7 6 bs (le-refl 7)
-bounded (userId before) bs y z = bounded-text 255 bs (textIn 255 bs) (text-law 255 bs)
-bounded (name before) bs y z = bounded-name 1014 bs (textIn 1014 bs) (text-law 1014 bs)
+bounded (Address command type) bs y z = bounded-address type bs y
+bounded Request bs y z = bounded-size 7 6 bs (le-refl 7)
+bounded (UserId p) bs y z = bounded-text 255 bs (textIn 255 bs) (text-law 255 bs)
+bounded (Name p) bs y z = bounded-name 1014 bs (textIn 1014 bs) (text-law 1014 bs)
 
 -- of the bytes it matters for the first two that they are bytes: a length stands there
-pub held-by : (s : Stage) (bs : List ℕ) → byte bs 0 ≤ 255 → byte bs 1 ≤ 255 → reads s bs ≡ undecided → length bs ≤ most s
+pub held-by : (s : Field) (bs : List ℕ) → byte bs 0 ≤ 255 → byte bs 1 ≤ 255 → reads s bs ≡ undecided → length bs ≤ most s
 held-by s bs y z q = rw q at (bounded s bs y z)
 
-most-1014 : (s : Stage) → most s ≤ 1014
-most-1014 first = lit≤ tt
-most-1014 methods = lit≤ tt
-most-1014 user = lit≤ tt
-most-1014 (password right) = lit≤ tt
-most-1014 head = lit≤ tt
-most-1014 (address command type) = go (eqb type 0x01) (eqb type 0x04)
+most-1014 : (s : Field) → most s ≤ 1014
+most-1014 First = lit≤ tt
+most-1014 Methods = lit≤ tt
+most-1014 User = lit≤ tt
+most-1014 (Password right) = lit≤ tt
+most-1014 Head = lit≤ tt
+most-1014 (Address command type) = go (eqb type 0x01) (eqb type 0x04)
   where
     go : (a b : Bool) → cond a 5 (cond b 17 257) ≤ 1014
     go true b = lit≤ tt
     go false true = lit≤ tt
     go false false = lit≤ tt
-most-1014 ports = lit≤ tt
-most-1014 (userId before) = lit≤ tt
-most-1014 (name before) = lit≤ tt
+most-1014 Request = lit≤ tt
+most-1014 (UserId p) = lit≤ tt
+most-1014 (Name p) = lit≤ tt
 
-pub held-most : (s : Stage) (bs : List ℕ) → Bytes bs → reads s bs ≡ undecided → length bs ≤ 1014
+pub held-most : (s : Field) (bs : List ℕ) → Bytes bs → reads s bs ≡ undecided → length bs ≤ 1014
 held-most s bs y q = le-trans (held-by s bs (y 0) (y 1) q) (most-1014 s)
 
 -- ---- the tests that machine and side share: credentials are the same byte by byte, and a method is offered if it stands among those that are

@@ -50,6 +50,13 @@ parts2 [] h = absurd (omega arith)
 parts2 (a ∷ []) h = absurd (omega arith)
 parts2 (a ∷ b ∷ bs) h = refl
 
+pub greeting-whole : (bs : List ℕ) → byte bs 0 ≡ 0x05 → 1 ≤ byte bs 1 → 2 + byte bs 1 ≤ length bs → greetingIn bs ≡ whole (2 + byte bs 1) (take (byte bs 1) (drop 2 bs))
+unfolding greetingIn
+greeting-whole bs e h k = rw (le-leb 1 (length bs) (omega arith), eq-eqb (byte bs 0) 0x05 e, le-leb 2 (length bs) (omega arith), le-leb 1 (byte bs 1) h, le-leb (2 + byte bs 1) (length bs) k)
+
+greeting-of : (p ms : List ℕ) → Greeting p ms → greetingIn p ≡ whole (length p) ms
+greeting-of _ _ (greeting {n} ms h k l) = greeting-whole (5 ∷ n ∷ ms) refl h (omega arith) ∙ rw (take-all n ms (omega arith)) (ap (λ (i : ℕ). whole i ms) (omega arith))
+
 greeting-by : (p ms : List ℕ) (n : ℕ) → p ≡ 5 ∷ n ∷ ms → 1 ≤ n → n ≤ 255 → length ms ≡ n → Greeting p ms
 greeting-by p ms n e h k l = rw e (greeting ms h k l)
 
@@ -65,13 +72,6 @@ greeting-is p y ms q =
     let l : length (drop 2 p) ≡ byte p 1 = omega (arith, length-drop 2 p, f .0) in
     let t : drop 2 p ≡ ms = sym (take-all (byte p 1) (drop 2 p) (omega arith)) ∙ f .1 in
     greeting-by p ms (byte p 1) (cc (parts2 p (c .0), eqb-true (byte p 0) 5 (b .0), t)) (leb-true 1 (byte p 1) (d .0)) (y 1) (ap length (sym t) ∙ l)
-
-pub greeting-whole : (bs : List ℕ) → byte bs 0 ≡ 0x05 → 1 ≤ byte bs 1 → 2 + byte bs 1 ≤ length bs → greetingIn bs ≡ whole (2 + byte bs 1) (take (byte bs 1) (drop 2 bs))
-unfolding greetingIn
-greeting-whole bs e h k = rw (le-leb 1 (length bs) (omega arith), eq-eqb (byte bs 0) 0x05 e, le-leb 2 (length bs) (omega arith), le-leb 1 (byte bs 1) h, le-leb (2 + byte bs 1) (length bs) k)
-
-greeting-of : (p ms : List ℕ) → Greeting p ms → greetingIn p ≡ whole (length p) ms
-greeting-of _ _ (greeting {n} ms h k l) = greeting-whole (5 ∷ n ∷ ms) refl h (omega arith) ∙ rw (take-all n ms (omega arith)) (ap (λ (i : ℕ). whole i ms) (omega arith))
 
 pub greeting-just : (bs : List ℕ) → Bytes bs → (n : ℕ) (ms : List ℕ) → greetingIn bs ≡ whole n ms ↔ ((p : List ℕ) × Begins p bs × (length p ≡ n) × Greeting p ms)
 greeting-just = just greetingIn greeting-extends Greeting greeting-is greeting-of
@@ -215,6 +215,42 @@ parts3 (a ∷ []) h = absurd (omega arith)
 parts3 (a ∷ b ∷ []) h = absurd (omega arith)
 parts3 (a ∷ b ∷ c ∷ bs) h = refl
 
+pub connect-head : (bs : List ℕ) → byte bs 0 ≡ 0x05 → byte bs 2 ≡ 0x00 → 4 ≤ length bs → connectIn bs ≡ targetIn (byte bs 1) bs
+unfolding connectIn
+connect-head bs e f h = rw (le-leb 1 (length bs) (omega arith), eq-eqb (byte bs 0) 0x05 e, le-leb 3 (length bs) (omega arith), eq-eqb (byte bs 2) 0x00 f, le-leb 4 (length bs) h)
+
+pub four-whole : (command : ℕ) (bs : List ℕ) → byte bs 3 ≡ 0x01 → 10 ≤ length bs → targetIn command bs ≡ whole 10 (command, endpoint (ipv4 (take 4 (drop 4 bs))) (twoOf (drop 8 bs)))
+unfolding targetIn
+four-whole command bs e h = rw (e, le-leb 10 (length bs) h)
+
+pub six-whole : (command : ℕ) (bs : List ℕ) → byte bs 3 ≡ 0x04 → 22 ≤ length bs → targetIn command bs ≡ whole 22 (command, endpoint (ipv6 (take 16 (drop 4 bs))) (twoOf (drop 20 bs)))
+unfolding targetIn
+six-whole command bs e h = rw (e, le-leb 22 (length bs) h)
+
+pub named-whole : (command : ℕ) (bs : List ℕ) → byte bs 3 ≡ 0x03 → 1 ≤ byte bs 4 → 7 + byte bs 4 ≤ length bs
+    → targetIn command bs ≡ whole (7 + byte bs 4) (command, endpoint (domain (take (byte bs 4) (drop 5 bs))) (twoOf (drop (5 + byte bs 4) bs)))
+unfolding targetIn
+named-whole command bs e k h = rw (e, le-leb 5 (length bs) (omega arith), le-leb 1 (byte bs 4) k, le-leb (7 + byte bs 4) (length bs) h)
+
+target-of : (command : ℕ) (a : List ℕ) (x : Endpoint) → Target a x → (1 ≤ length a) × (targetIn command (5 ∷ command ∷ 0 ∷ a) ≡ whole (3 + length a) (command, x))
+target-of command _ _ (four a port l j) = (
+  omega arith,
+  four-whole command (5 ∷ command ∷ 0 ∷ 1 ∷ (a ++ port)) refl (omega (arith, length-append a port)) ∙ rw (take-at a port 4 l, drop-at a port 4 l)
+      (ap (λ (i : ℕ). whole i (command, endpoint (ipv4 a) (twoOf port))) (omega (arith, length-append a port))),
+)
+target-of command _ _ (six a port l j) = (
+  omega arith,
+  six-whole command (5 ∷ command ∷ 0 ∷ 4 ∷ (a ++ port)) refl (omega (arith, length-append a port)) ∙ rw (take-at a port 16 l, drop-at a port 16 l)
+      (ap (λ (i : ℕ). whole i (command, endpoint (ipv6 a) (twoOf port))) (omega (arith, length-append a port))),
+)
+target-of command _ _ (named {n} s port h k l j) =
+    let p : List ℕ = 5 ∷ command ∷ 0 ∷ 3 ∷ n ∷ (s ++ port) in
+    let d : drop (5 + n) p ≡ port = sym (drop-drop n 5 p) ∙ drop-at s port n l in (
+      omega arith,
+      named-whole command p refl h (omega (arith, length-append s port)) ∙ rw (take-at s port n l, d)
+          (ap (λ (i : ℕ). whole i (command, endpoint (domain s) (twoOf port))) (omega (arith, length-append s port))),
+    )
+
 -- an address of k bytes with its port
 fixed-is : (p : List ℕ) (t k : ℕ) (of : List ℕ → Destination)
     → ((a port : List ℕ) → length a ≡ k → length port ≡ 2 → Target (t ∷ (a ++ port)) (endpoint (of a) (twoOf port)))
@@ -278,42 +314,6 @@ connect-is p y x q =
     let e = from-inv 4 p _ (length p) x (d .1) in
     let (f, t) = target-is p y (byte p 1) x (e .1) in
     connect-by p (drop 3 p) (x .0) (x .1) (cc (parts3 p (c .0), eqb-true (byte p 0) 0x05 (b .0), eqb-true (byte p 2) 0x00 (d .0), f)) t
-
-pub connect-head : (bs : List ℕ) → byte bs 0 ≡ 0x05 → byte bs 2 ≡ 0x00 → 4 ≤ length bs → connectIn bs ≡ targetIn (byte bs 1) bs
-unfolding connectIn
-connect-head bs e f h = rw (le-leb 1 (length bs) (omega arith), eq-eqb (byte bs 0) 0x05 e, le-leb 3 (length bs) (omega arith), eq-eqb (byte bs 2) 0x00 f, le-leb 4 (length bs) h)
-
-pub four-whole : (command : ℕ) (bs : List ℕ) → byte bs 3 ≡ 0x01 → 10 ≤ length bs → targetIn command bs ≡ whole 10 (command, endpoint (ipv4 (take 4 (drop 4 bs))) (twoOf (drop 8 bs)))
-unfolding targetIn
-four-whole command bs e h = rw (e, le-leb 10 (length bs) h)
-
-pub six-whole : (command : ℕ) (bs : List ℕ) → byte bs 3 ≡ 0x04 → 22 ≤ length bs → targetIn command bs ≡ whole 22 (command, endpoint (ipv6 (take 16 (drop 4 bs))) (twoOf (drop 20 bs)))
-unfolding targetIn
-six-whole command bs e h = rw (e, le-leb 22 (length bs) h)
-
-pub named-whole : (command : ℕ) (bs : List ℕ) → byte bs 3 ≡ 0x03 → 1 ≤ byte bs 4 → 7 + byte bs 4 ≤ length bs
-    → targetIn command bs ≡ whole (7 + byte bs 4) (command, endpoint (domain (take (byte bs 4) (drop 5 bs))) (twoOf (drop (5 + byte bs 4) bs)))
-unfolding targetIn
-named-whole command bs e k h = rw (e, le-leb 5 (length bs) (omega arith), le-leb 1 (byte bs 4) k, le-leb (7 + byte bs 4) (length bs) h)
-
-target-of : (command : ℕ) (a : List ℕ) (x : Endpoint) → Target a x → (1 ≤ length a) × (targetIn command (5 ∷ command ∷ 0 ∷ a) ≡ whole (3 + length a) (command, x))
-target-of command _ _ (four a port l j) = (
-  omega arith,
-  four-whole command (5 ∷ command ∷ 0 ∷ 1 ∷ (a ++ port)) refl (omega (arith, length-append a port)) ∙ rw (take-at a port 4 l, drop-at a port 4 l)
-      (ap (λ (i : ℕ). whole i (command, endpoint (ipv4 a) (twoOf port))) (omega (arith, length-append a port))),
-)
-target-of command _ _ (six a port l j) = (
-  omega arith,
-  six-whole command (5 ∷ command ∷ 0 ∷ 4 ∷ (a ++ port)) refl (omega (arith, length-append a port)) ∙ rw (take-at a port 16 l, drop-at a port 16 l)
-      (ap (λ (i : ℕ). whole i (command, endpoint (ipv6 a) (twoOf port))) (omega (arith, length-append a port))),
-)
-target-of command _ _ (named {n} s port h k l j) =
-    let p : List ℕ = 5 ∷ command ∷ 0 ∷ 3 ∷ n ∷ (s ++ port) in
-    let d : drop (5 + n) p ≡ port = sym (drop-drop n 5 p) ∙ drop-at s port n l in (
-      omega arith,
-      named-whole command p refl h (omega (arith, length-append s port)) ∙ rw (take-at s port n l, d)
-          (ap (λ (i : ℕ). whole i (command, endpoint (domain s) (twoOf port))) (omega (arith, length-append s port))),
-    )
 
 connect-of : (p : List ℕ) (x : ℕ × Endpoint) → Connect p (x .0) (x .1) → connectIn p ≡ whole (length p) x
 connect-of p (command, x) w = go w

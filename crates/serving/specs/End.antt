@@ -6,9 +6,15 @@ use lib.ListN.{length, drop, replicate}
 use lib.Dec.{leb, eqb}
 use Rattle.protocol.specs.declared.SocksError.{SocksError}
 use Rattle.protocol.specs.declared.SocksError.the-variants.{Unsupported, Command, Malformed, WrongCredentials}
+use Rattle.protocol.specs.declared.Version.{Version}
+use Rattle.protocol.specs.declared.Version.the-variants.{V4, V5}
 use Rattle.protocol.specs.Bytes.{byte, two}
 use Rattle.protocol.specs.AddressReading.{Destination, ipv4, ipv6, domain}
 use Rattle.protocol.specs.Bound.{Endpoint}
+use Rattle.serving.specs.declared.Says.{Says}
+use Rattle.serving.specs.declared.Says.the-variants.{Nothing, Method, Login, Reply5, Reply4}
+use Rattle.serving.specs.declared.Stage.{Stage}
+use Rattle.serving.specs.declared.Stage.the-variants.{Open, Failed}
 use Rattle.serving.specs.Reads.{Seen, short, wrong, unknown, whole, greetingIn, loginIn, connectIn, requestIn}
 
 -- what the end was set up with
@@ -17,10 +23,18 @@ pub record Setup : Type 0 where
   pub user : List ℕ
   pub password : List ℕ
 
+-- what is asked for, and in which version
+pub record Asked : Type 0 where
+  pub version : Version
+  pub target : Endpoint
+
+abbrev pub asked : Version → Endpoint → Asked
+asked v x = record { version = v; target = x }
+
 -- it waits for bytes; or has handed out what is asked for, and awaits the caller's answer; or has failed
 pub data Standing : Type 0 where
   waits : Standing
-  asks : Endpoint → Standing
+  asks : Asked → Standing
   fails : SocksError → Standing
 
 pub record End : Type 0 where
@@ -49,6 +63,13 @@ ownReply5 status = 0x05 ∷ status ∷ 0x00 ∷ 0x01 ∷ replicate 6 0x00
 abbrev pub ownReply4 : ℕ → List ℕ
 ownReply4 status = 0x00 ∷ status ∷ replicate 6 0x00
 
+abbrev pub saidBy : Says → List ℕ
+saidBy Nothing = []
+saidBy (Method m) = methodReply m
+saidBy (Login status) = loginReply status
+saidBy (Reply5 status) = ownReply5 status
+saidBy (Reply4 status) = ownReply4 status
+
 unfoldable pub offers : ℕ → List ℕ → Bool
 offers m [] = false
 offers m (x ∷ xs) = eqb x m || offers m xs
@@ -69,7 +90,7 @@ reads (whole n a) sent place on = on n a
 
 -- a whole connect: a command other than 1 gets 7
 abbrev pub connected : List ℕ → ℕ → ℕ → Endpoint → End
-connected sent place command x = cond (eqb command 1) (has sent (asks x) place) (has (sent ++ ownReply5 7) (fails (Command 7)) place)
+connected sent place command x = cond (eqb command 1) (has sent (asks (asked V5 x)) place) (has (sent ++ ownReply5 7) (fails (Command 7)) place)
 
 unfoldable pub connecting : List ℕ → ℕ → List ℕ → End
 connecting sent place bs = reads (connectIn (drop place bs)) sent place (λ n r. connected sent (place + n) (r .0) (r .1))
@@ -92,7 +113,7 @@ greeted c place methods bs =
 abbrev pub requested : Setup → ℕ → ℕ → Endpoint → End
 requested c place command x =
     cond (c .authenticates) (has (ownReply4 91) (fails WrongCredentials) place)
-    (cond (eqb command 1) (has [] (asks x) place) (has (ownReply4 91) (fails (Command 91)) place))
+    (cond (eqb command 1) (has [] (asks (asked V4 x)) place) (has (ownReply4 91) (fails (Command 91)) place))
 
 -- the first byte picks the version
 unfoldable pub machine : Setup → List ℕ → End
@@ -102,6 +123,15 @@ machine c bs =
     (cond (eqb (byte bs 0) 0x04) (reads (requestIn bs) [] 0 (λ n r. requested c n (r .0) (r .1)))
     (has [] (fails Malformed) 1)))
     (has [] waits 0)
+
+-- its used bytes: all while it waits, otherwise up to the place
+abbrev pub usedBy : Standing → ℕ → List ℕ → ℕ
+usedBy waits place bs = length bs
+usedBy (asks x) place bs = place
+usedBy (fails e) place bs = place
+
+unfoldable pub used : Setup → List ℕ → ℕ
+used c bs = usedBy (machine c bs .standing) (machine c bs .place) bs
 
 -- ---- the caller's answer: a status, and the address and port that are bound
 
@@ -129,3 +159,20 @@ reply5 status x = 0x05 ∷ status5 status ∷ 0x00 ∷ (boundField (x .address) 
 
 abbrev pub reply4 : ℕ → Endpoint → List ℕ
 reply4 status x = 0x00 ∷ status4 status ∷ (two (x .port) ++ dstIp (x .address))
+
+abbrev pub replyTo : Version → ℕ → Endpoint → List ℕ
+replyTo V4 status x = reply4 status x
+replyTo V5 status x = reply5 status x
+
+-- the status sent, and the one that is success
+abbrev pub statusTo : Version → ℕ → ℕ
+statusTo V4 status = status4 status
+statusTo V5 status = status5 status
+
+abbrev pub success : Version → ℕ
+success V4 = 90
+success V5 = 0
+
+-- the end is then open, or failed with 15 and the status sent
+abbrev pub stageAfter : Version → ℕ → Stage
+stageAfter v status = cond (eqb (statusTo v status) (success v)) (Open v) (Failed (Command (statusTo v status)))

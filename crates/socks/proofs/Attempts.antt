@@ -23,7 +23,7 @@ use Rattle.sending.proofs.Held.{begun-held}
 use Rattle.session.specs.declared.Session.{Session}
 use Rattle.session.specs.Session.{view, heldBytes, roomAt}
 use Rattle.session.specs.Calls.{Call, refusal, takes, deliver, receiver, start, preparedBy, prepare5, prepare4}
-use Rattle.socks.specs.Demand3.{BytePieces}
+use Rattle.protocol.specs.Bytes.{BytePieces}
 use Rattle.socks.specs.Attempts.{oneIf, isWaiting, isAccepted, hasByte, lendsFor, counts, attemptsAt, attemptsOf, acceptedIn, Effort, Tried}
 use Rattle.socks.proofs.Refusals.{clash}
 use Rattle.socks.proofs.InTwo.{start-begins}

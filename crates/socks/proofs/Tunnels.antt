@@ -9,7 +9,7 @@ use lib.Seq.{take-append-seam}
 use lib.Dec.{leb}
 use Rattle.protocol.specs.declared.SocksError.the-variants.{ShortOutput, Settled, OutOfOrder}
 use Rattle.protocol.specs.declared.Bound.{Bound}
-use Rattle.protocol.specs.Bytes.{Bytes}
+use Rattle.protocol.specs.Bytes.{Bytes, BytePieces}
 use Rattle.protocol.specs.AddressReading.{Destination, ipv4, ipv6, domain}
 use Rattle.protocol.specs.Requests.{kindOf}
 use Rattle.protocol.specs.Bound.{endpoint, kindIn, bytesIn, addressOf}
@@ -28,7 +28,7 @@ use Rattle.sending.specs.Stages.{SideSession, viewAt, holdsOf}
 use Rattle.sending.specs.Parts.{requestsOf}
 use Rattle.session.specs.Session.{heldBytes, view, packed, outcome, bound, roomAt}
 use Rattle.session.specs.Calls.{refusal, takes, deliver, receiver}
-use Rattle.socks.specs.Demand3.{BytePieces, Alike, tunnelOf, joinedOf, Demand3}
+use Rattle.socks.specs.Demand3.{Alike, tunnelOf, joinedOf, Demand3}
 use Rattle.talk.specs.Talk as talk
 use Rattle.talk.specs.Tunnel as side
 use Rattle.talk.specs.Tunnel.{Delivery, lends, answerTo, joined, tunnel, given, refusing, accepting}

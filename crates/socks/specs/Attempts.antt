@@ -14,7 +14,7 @@ use Rattle.protocol.specs.Machine.{machine, decidedOn}
 use Rattle.session.specs.declared.Session.{Session}
 use Rattle.session.specs.declared.Prepared.{Prepared}
 use Rattle.session.specs.Calls.{start, receiver}
-use Rattle.socks.specs.Demand3.{BytePieces}
+use Rattle.protocol.specs.Bytes.{BytePieces}
 use Rattle.talk.specs.Tunnel.{Delivery, lends, answerTo, after}
 
 abbrev pub oneIf : Bool → ℕ

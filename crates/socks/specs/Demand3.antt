@@ -2,11 +2,11 @@
 use Prim.Native.Nat.{ℕ}
 use mathlib.Core.Path.{_≡_}
 use mathlib.Core.Logic.{_↔_}
-use mathlib.Core.List.{List, List·Memᴰ}
+use mathlib.Core.List.{List}
 use lib.ListN.{take, drop}
 use Rattle.protocol.specs.declared.Answer.the-variants.{Accepted}
 use Rattle.protocol.specs.declared.Outcome.the-variants.{Open}
-use Rattle.protocol.specs.Bytes.{Bytes}
+use Rattle.protocol.specs.Bytes.{BytePieces}
 use Rattle.protocol.specs.Bound.{addressOf}
 use Rattle.protocol.specs.Opening.{Opening, deliveryRoom}
 use Rattle.protocol.specs.Machine.{machine, used}
@@ -16,10 +16,6 @@ use Rattle.session.specs.Session.{outcome, bound}
 use Rattle.session.specs.declared.Prepared.{Prepared}
 use Rattle.session.specs.Calls.{start, receiver}
 use Rattle.talk.specs.Tunnel.{Delivery, joined, Tunnel, tunnel}
-
--- each delivery's piece is a byte string, as a slice of bytes is
-abbrev pub BytePieces : List Delivery → Type 0
-BytePieces ds = (d : Delivery) → List·Memᴰ d ds → Bytes (d .piece)
 
 -- what two tunnels have alike: outcome with status, bound address, sent bytes, total count and rests. Not the attempts (F-11), in which lists with equal joined
 -- bytes may differ

@@ -11,6 +11,8 @@ use Rattle.protocol.specs.declared.SocksError.{SocksError}
 use Rattle.protocol.specs.declared.Bound.{Bound}
 use Rattle.protocol.specs.Bound.{Endpoint, unbound}
 use Rattle.wire.specs.Written.{overwrite}
+use Rattle.holding.specs.declared.Held.{Held}
+use Rattle.holding.specs.Held.{Binds}
 use Rattle.reading.specs.Fewest.{fewest}
 use Rattle.reading.proofs.Reading.{too-few}
 use Rattle.sending.specs.declared.Lengths.{Lengths}
@@ -19,8 +21,6 @@ use Rattle.sending.specs.declared.Stage.the-variants.{Awaiting, Open, Failed}
 use Rattle.sending.specs.Stages.{sessionAt}
 use Rattle.sending.specs.Due.{dueFrom}
 use Rattle.sending.proofs.Sending.{due-inside}
-use Rattle.bound.specs.declared.Held.{Held}
-use Rattle.bound.specs.Named.{Binds}
 use Rattle.turns.specs.Turns.{keptIn, Rests, namedAt, Ready, Worked}
 use Rattle.turns.proofs.Steps.{stage-rests, rests-decided}
 use Rattle.taking.specs.declared.Taken.{Taken}

@@ -1,71 +1,71 @@
 use mathlib.Core.Path.{sym, _∙_}
 use mathlib.Core.List.{_++_}
-use Rattle.bound.proofs.Laws.{byte-is, finds-four, finds-six, finds-name}
+use Rattle.bound.proofs.Laws.{finds-four, finds-six, finds-name}
 use borrow.Author.Needs.{needs}
 use Rattle.bound.proofs.in_proxy_res.Statement.{statement}
 use Rattle.bound.proofs.in_proxy_res.Tie as tie
 
-byte-at-requires : tie.Need-byte-at-requires
-byte-at-requires c κs = search needs
+byte-requires : tie.Need-byte-requires
+byte-requires c κs = search needs
 
-two-at-requires : tie.Need-two-at-requires
-two-at-requires c κs = search needs
+port-at-requires : tie.Need-port-at-requires
+port-at-requires c κs = search needs
 
 stands-requires : tie.Need-stands-requires
 stands-requires c κs = search needs
 
 returns : tie.Need-returns
-returns c = let start = c .before .before .before .before .before .before .before in
-    let bs = start .args .held .now ++ start .args .piece .now in
-    finds-four bs (start .pre) (sym (byte-is bs 3 (c .before .before .before .before .byte-at .ensures)) ∙ c .before .before .if1 .taken) (c .before .two-at .ensures) (c .stands .ensures)
+returns c =
+    let start = c .before .before .before .before .before .before in
+    finds-four (start .args .held .now ++ start .args .piece .now) (start .pre) (sym (c .before .before .before .byte .ensures) ∙ c .before .before .if1 .taken) (c .before .port-at .ensures) (c .stands .ensures)
 
-two-at-requires-2 : tie.Need-two-at-requires-2
-two-at-requires-2 c κs = search needs
+port-at-requires-2 : tie.Need-port-at-requires-2
+port-at-requires-2 c κs = search needs
 
 stands-requires-2 : tie.Need-stands-requires-2
 stands-requires-2 c κs = search needs
 
 returns-2 : tie.Need-returns-2
-returns-2 c = let start = c .before .before .before .before .before .before .before .before .before in
-    let bs = start .args .held .now ++ start .args .piece .now in
-    finds-six bs (start .pre) (sym (byte-is bs 3 (c .before .before .before .before .before .before .byte-at .ensures)) ∙ c .before .before .if2 .taken) (c .before .two-at2 .ensures) (c .stands2 .ensures)
+returns-2 c =
+    let start = c .before .before .before .before .before .before .before in
+    finds-six (start .args .held .now ++ start .args .piece .now) (start .pre) (sym (c .before .before .before .before .byte .ensures) ∙ c .before .before .if2 .taken) (c .before .port-at2 .ensures) (c .stands2 .ensures)
 
-byte-at-requires-2 : tie.Need-byte-at-requires-2
-byte-at-requires-2 c κs = search needs
+byte-requires-2 : tie.Need-byte-requires-2
+byte-requires-2 c κs = search needs
 
 wide-requires : tie.Need-wide-requires
 wide-requires c κs = search needs
 
-add-two-at : tie.Need-add-two-at
-add-two-at c = search needs
+add-port-at : tie.Need-add-port-at
+add-port-at c = search needs
 
-two-at-requires-3 : tie.Need-two-at-requires-3
-two-at-requires-3 c κs = search needs
+port-at-requires-3 : tie.Need-port-at-requires-3
+port-at-requires-3 c κs = search needs
 
 stands-requires-3 : tie.Need-stands-requires-3
 stands-requires-3 c κs = search needs
 
 returns-3 : tie.Need-returns-3
-returns-3 c = let start = c .before .before .before .before .before .before .before .before .before .before .before in
-    let bs = start .args .held .now ++ start .args .piece .now in
-    let t = byte-is bs 3 (c .before .before .before .before .before .before .before .before .byte-at .ensures) in
+returns-3 c =
+    let start = c .before .before .before .before .before .before .before .before .before in
+    let t = c .before .before .before .before .before .before .byte .ensures in
     let e = c .before .before .wide .ensures in
-    finds-name bs (start .pre) (λ q. c .before .before .before .before .before .before .if1 .left (t ∙ q)) (λ q. c .before .before .before .before .if2 .left (t ∙ q)) (e ∙ byte-is bs 4 (c .before .before .before .byte-at2 .ensures)) (search needs) (c .before .two-at3 .ensures) (c .stands3 .ensures)
+    finds-name (start .args .held .now ++ start .args .piece .now) (start .pre) (λ q. c .before .before .before .before .before .if1 .left (t ∙ q)) (λ q. c .before .before .before .before .if2 .left (t ∙ q)) (e ∙ c .before .before .before .byte2 .ensures) (search needs) (c .before .port-at3 .ensures) (c .stands3 .ensures)
 
 pub in-proxy-res-spec : {M : Type 1} → statement M
 in-proxy-res-spec =
     tie.close
     (tie.spec
-    byte-at-requires
-    two-at-requires
+    byte-requires
+    port-at-requires
     stands-requires
     returns
-    two-at-requires-2
+    port-at-requires-2
     stands-requires-2
     returns-2
-    byte-at-requires-2
+    byte-requires-2
     wide-requires
-    add-two-at
-    two-at-requires-3
+    add-port-at
+    port-at-requires-3
     stands-requires-3
     returns-3)

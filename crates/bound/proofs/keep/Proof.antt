@@ -1,10 +1,22 @@
-use mathlib.Core.List.{_++_}
 use native.Mathlib.Omega.{arith}
-use lib.ListN.{take}
-use Rattle.bound.proofs.Laws.{unread-at, found-at, found-inside, binds}
+use mathlib.Core.List.{_++_}
+use lib.ListN.{take, drop}
+use Rattle.protocol.specs.Bound.{boundBy}
+use Rattle.holding.specs.Held.{Finds}
+use Rattle.holding.proofs.Laws.{found-inside}
+use Rattle.bound.specs.Named.{lastOf}
+use Rattle.bound.proofs.Laws.{unread-at, found-at}
 use borrow.Author.Needs.{needs}
 use Rattle.bound.proofs.keep.Statement.{statement}
 use Rattle.bound.proofs.keep.Tie as tie
+
+-- what was found in the unread bytes
+found : (c : tie.After-find) → (let a = c .before .before .before .before .before .before .before .args in Finds 255 (boundBy (lastOf (a .reply)) (drop (a .at) (take (a .n) (a .hold .now) ++ a .piece .now))) (drop (a .at) (take (a .n) (a .hold .now) ++ a .piece .now)) (c .find .result))
+found c =
+    let start = c .before .before .before .before .before .before .before in
+    let a = start .args in
+    let p = start .pre in
+    found-at (a .reply) (a .hold .now) (a .piece .now) (a .n) (a .at) (c .before .before .before .before .least .result) (omega arith) (c .before .before .before .before .least .ensures) (c .find .ensures)
 
 least-requires : tie.Need-least-requires
 least-requires c κs = search needs
@@ -31,46 +43,26 @@ part-find-end-2 : tie.Need-part-find-end-2
 part-find-end-2 c = search needs
 
 find-requires : tie.Need-find-requires
-find-requires c κs = let start = c .before .before .before .before .before .before in
+find-requires c κs =
+    let start = c .before .before .before .before .before .before in
     let a = start .args in
     let p = start .pre in
     rw (unread-at (a .hold .now) (a .piece .now) (a .n) (a .at) (c .before .before .before .least .result) (omega arith) (c .before .before .before .least .ensures)) (p .3)
 
-add-from : tie.Need-add-from
-add-from c = let start = c .before .before .before .before .before .before .before .before in
+keep-found-requires : tie.Need-keep-found-requires
+keep-found-requires c κs =
+    let start = c .before .before .before .before .before .before .before .before in
     let a = start .args in
     let p = start .pre in
-    let f = found-at (a .reply) (a .hold .now) (a .piece .now) (a .n) (a .at) (c .before .before .before .before .before .least .result) (omega arith) (c .before .before .before .before .before .least .ensures) (c .before .find .ensures) in
-    let i = found-inside (a .hold .now) (a .piece .now) (a .n) (a .at) (omega arith) f (p .2) in
-    let k = c .before .before .before .before .before .before .shared-slice-known .given in
-    record { fits = omega arith }
-
-add-keep-part : tie.Need-add-keep-part
-add-keep-part c = let start = c .before .before .before .before .before .before .before .before .before .before in
-    let a = start .args in
-    let p = start .pre in
-    let f = found-at (a .reply) (a .hold .now) (a .piece .now) (a .n) (a .at) (c .before .before .before .before .before .before .before .least .result) (omega arith) (c .before .before .before .before .before .before .before .least .ensures) (c .before .before .before .find .ensures) in
-    let i = found-inside (a .hold .now) (a .piece .now) (a .n) (a .at) (omega arith) f (p .2) in
-    let k = c .before .before .before .before .before .before .before .before .shared-slice-known .given in
-    record { fits = omega arith }
-
-keep-part-requires : tie.Need-keep-part-requires
-keep-part-requires c κs = let start = c .before .before .before .before .before .before .before .before .before .before in
-    let a = start .args in
-    let p = start .pre in
-    let f = found-at (a .reply) (a .hold .now) (a .piece .now) (a .n) (a .at) (c .before .before .before .before .before .before .before .least .result) (omega arith) (c .before .before .before .before .before .before .before .least .ensures) (c .before .before .before .find .ensures) in
+    let f = found (c .before) in
     let s = f .small in
-    (p .0, p .1, omega arith, omega arith, found-inside (a .hold .now) (a .piece .now) (a .n) (a .at) (omega arith) f (p .2))
+    (omega arith, omega arith, found-inside (a .hold .now) (a .piece .now) (a .n) (a .at) (omega arith) f (p .2))
 
 same-length : tie.Need-same-length
 same-length c = search needs
 
 returns : tie.Need-returns
-returns c = let start = c .before .before .before .before .before .before .before .before .before .before .before .before .before .before in
-    let a = start .args in
-    let p = start .pre in
-    let f = found-at (a .reply) (a .hold .now) (a .piece .now) (a .n) (a .at) (c .before .before .before .before .before .before .before .before .before .before .before .least .result) (omega arith) (c .before .before .before .before .before .before .before .before .before .before .before .least .ensures) (c .before .before .before .before .before .before .before .find .ensures) in
-    binds (take (a .n) (a .hold .now) ++ a .piece .now) (a .hold .now) (a .at) f (c .before .before .before .keep-part .ensures)
+returns c = c .before .before .keep-found .ensures _ _ (found (c .before .before .before .before))
 
 pub keep-spec : {M : Type 1} → statement M
 keep-spec =
@@ -85,8 +77,6 @@ keep-spec =
     part-find-start-2
     part-find-end-2
     find-requires
-    add-from
-    add-keep-part
-    keep-part-requires
+    keep-found-requires
     same-length
     returns)

@@ -1,0 +1,28 @@
+use mathlib.Core.Path.{refl, sym}
+use native.Mathlib.Omega.{arith}
+use lib.ListN.{length-take}
+use lib.Seq.{length-take-le}
+use Rattle.destinations.proofs.Laws.{target-is}
+use borrow.Author.Needs.{needs}
+use Rattle.destinations.proofs.as_target.Statement.{statement}
+use Rattle.destinations.proofs.as_target.Tie as tie
+
+least-requires : tie.Need-least-requires
+least-requires c κs = search needs
+
+slice-aggregate-copy : tie.Need-slice-aggregate-copy
+slice-aggregate-copy c = search needs
+
+slice-aggregate-copy-2 : tie.Need-slice-aggregate-copy-2
+slice-aggregate-copy-2 c = let e = c .before .before .least .ensures in sym (length-take-le _ _ (omega arith))
+
+copy-requires : tie.Need-copy-requires
+copy-requires c κs = let e = c .before .before .least .ensures in omega (arith, length-take (c .before .before .least .result) (c .before .before .before .before .args .held .now))
+
+returns : tie.Need-returns
+returns c = let a = c .before .before .before .before .before .before .args in target-is (a .bound) (a .held .now) (c .before .before .before .before .least .ensures) refl (c .before .copy .ensures)
+
+pub as-target-spec : {M : Type 1} → statement M
+as-target-spec =
+    tie.close
+    (tie.spec least-requires slice-aggregate-copy slice-aggregate-copy-2 copy-requires returns)

@@ -1,0 +1,90 @@
+use native.Mathlib.Omega.{arith}
+use mathlib.Core.List.{_++_}
+use Prim.Native.Nat.{_-_}
+use lib.ListN.{take, drop}
+use Rattle.judging.specs.Due.{asksAt}
+use Rattle.holding.specs.Held.{Finds}
+use Rattle.holding.proofs.Laws.{found-inside}
+use Rattle.destinations.proofs.Laws.{cut, found-in}
+use borrow.Author.Needs.{needs}
+use Rattle.destinations.proofs.keep_told.Statement.{statement}
+use Rattle.destinations.proofs.keep_told.Tie as tie
+
+-- what was found in the field's bytes
+found : (c : tie.After-find) → (let a = c .before .before .before .before .before .before .before .before .args in Finds 1014 (asksAt (a .field) (take (a .end - a .begin) (drop (a .begin) (take (a .n) (a .hold .now) ++ a .piece .now)))) (drop (a .begin) (take (a .n) (a .hold .now) ++ a .piece .now)) (c .find .result))
+found c =
+    let start = c .before .before .before .before .before .before .before .before in
+    let a = start .args in
+    let p = start .pre in
+    found-in (a .field) (a .hold .now) (a .piece .now) (a .n) (a .begin) (a .end) (c .before .before .before .before .before .least .result) (c .before .before .before .before .least2 .result) (omega arith) (p .2) (p .3) (c .before .before .before .before .before .least .ensures) (c .before .before .before .before .least2 .ensures) (c .find .ensures)
+
+least-requires : tie.Need-least-requires
+least-requires c κs = search needs
+
+sub-b : tie.Need-sub-b
+sub-b c = search needs
+
+least-requires-2 : tie.Need-least-requires-2
+least-requires-2 c κs = search needs
+
+sub-d : tie.Need-sub-d
+sub-d c = search needs
+
+sub-find : tie.Need-sub-find
+sub-find c = search needs
+
+part-find-start : tie.Need-part-find-start
+part-find-start c = search needs
+
+part-find-end : tie.Need-part-find-end
+part-find-end c = search needs
+
+sub-find-2 : tie.Need-sub-find-2
+sub-find-2 c = search needs
+
+part-find-start-2 : tie.Need-part-find-start-2
+part-find-start-2 c = search needs
+
+part-find-end-2 : tie.Need-part-find-end-2
+part-find-end-2 c = search needs
+
+find-requires : tie.Need-find-requires
+find-requires c κs =
+    let start = c .before .before .before .before .before .before .before in
+    let a = start .args in
+    let p = start .pre in
+    rw (cut (a .hold .now) (a .piece .now) (a .n) (a .begin) (a .end) (c .before .before .before .before .least .result) (c .before .before .before .least2 .result) (omega arith) (p .2) (c .before .before .before .before .least .ensures) (c .before .before .before .least2 .ensures)) (p .4)
+
+keep-found-requires : tie.Need-keep-found-requires
+keep-found-requires c κs =
+    let start = c .before .before .before .before .before .before .before .before .before in
+    let a = start .args in
+    let p = start .pre in
+    let f = found (c .before) in
+    let s = f .small in
+    (omega arith, omega arith, found-inside (a .hold .now) (a .piece .now) (a .n) (a .begin) (omega arith) f (omega arith))
+
+same-length : tie.Need-same-length
+same-length c = search needs
+
+returns : tie.Need-returns
+returns c = c .before .before .keep-found .ensures _ _ (found (c .before .before .before .before))
+
+pub keep-told-spec : {M : Type 1} → statement M
+keep-told-spec =
+    tie.close
+    (tie.spec
+    least-requires
+    sub-b
+    least-requires-2
+    sub-d
+    sub-find
+    part-find-start
+    part-find-end
+    sub-find-2
+    part-find-start-2
+    part-find-end-2
+    find-requires
+    keep-found-requires
+    same-length
+    returns)

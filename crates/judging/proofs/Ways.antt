@@ -1,0 +1,106 @@
+-- What the ways through the judging of a field come to.
+use Prim.Native.Nat.{ℕ, _+_, _*_}
+use mathlib.Core.Path.{_≡_, sym, ap, _∙_}
+use mathlib.Core.Bool.{Bool, true, false}
+use mathlib.Core.List.{List}
+use lib.ListN.{drop}
+use lib.Seq.{getD-drop}
+use lib.Dec.{eqb, ltb}
+use borrow.Author.Tests.{eq-eqb, ne-eqb}
+use Rattle.protocol.specs.declared.SocksError.the-variants.{Unsupported, Command, WrongCredentials}
+use Rattle.protocol.specs.Bytes.{byte, twoOf}
+use Rattle.protocol.specs.Opening.{announces}
+use Rattle.serving.specs.declared.Field.{Field}
+use Rattle.serving.specs.declared.Field.the-variants.{Head, Address}
+use Rattle.serving.specs.declared.Ports.{Ports}
+use Rattle.serving.specs.declared.Says.the-variants.{Method, Login, Reply5}
+use Rattle.serving.specs.declared.Stage.the-variants.{Awaiting}
+use Rattle.serving.specs.End.{chosen, offers, same}
+use Rattle.serving.specs.Side.{isKnown, portsOf, ipOf}
+use Rattle.judging.specs.declared.Due.{Due}
+use Rattle.judging.specs.Due.{goesTo, failsWith, behindGreeting, dueMethods, duePassword, dueHead}
+
+-- ---- a greeting
+
+pub chosen-true : {m : ℕ} (a : Bool) → a ≡ true → m ≡ 0x02 → m ≡ chosen a
+chosen-true a t e = rw t e
+
+pub chosen-false : {m : ℕ} (a : Bool) → a ≡ false → m ≡ 0x00 → m ≡ chosen a
+chosen-false a t e = rw t e
+
+module _ (a : Bool) (bs : List ℕ) {m : ℕ} {o : Bool} (e : m ≡ chosen a) (s : o ≡ offers m (drop 1 bs)) where
+  offered : {b : Bool} → o ≡ b → offers (chosen a) (drop 1 bs) ≡ b
+  offered t = ap (λ (k : ℕ). offers k (drop 1 bs)) (sym e) ∙ sym s ∙ t
+
+  pub methods-taken : {f : Field} → o ≡ true → f ≡ behindGreeting a → record { stage = Awaiting f; says = Method m } ≡ dueMethods a bs
+  methods-taken t g = rw (offered t, g, e)
+
+  pub methods-refused : {d : Due} → o ≡ false → d ≡ failsWith Unsupported (Method 0xFF) → d ≡ dueMethods a bs
+  methods-refused t g = rw (offered t) g
+
+-- ---- credentials
+
+module _ (right : Bool) (password bs : List ℕ) where
+  module _ (t : right ≡ true) {s : Bool} (e : s ≡ same (drop 1 bs) password) where
+    pub password-taken : s ≡ true → record { stage = Awaiting Head; says = Login 0x00 } ≡ duePassword right password bs
+    password-taken u = rw (t, sym e ∙ u)
+
+    pub password-wrong : {d : Due} → d ≡ failsWith WrongCredentials (Login 0x01) → s ≡ false → d ≡ duePassword right password bs
+    password-wrong g u = rw (t, sym e ∙ u) g
+
+  pub user-wrong : {d : Due} → d ≡ failsWith WrongCredentials (Login 0x01) → right ≡ false → d ≡ duePassword right password bs
+  user-wrong g t = rw t g
+
+-- ---- a type is one of three
+
+module _ (k : ℕ) where
+  pub known-first : k ≡ 0x01 → eqb k 0x01 ≡ isKnown k
+  known-first e = rw (eq-eqb k 0x01 e)
+
+  module _ (f : k ≡ 0x01 → ⊥) where
+    pub known-second : k ≡ 0x04 → eqb k 0x04 ≡ isKnown k
+    known-second e = rw (ne-eqb k 0x01 f, eq-eqb k 0x04 e)
+
+    pub known-third : (k ≡ 0x04 → ⊥) → eqb k 0x03 ≡ isKnown k
+    known-third g = rw (ne-eqb k 0x01 f, ne-eqb k 0x04 g)
+
+module _ (bs : List ℕ) {k : ℕ} {b : Bool} (e : k ≡ byte bs 3) (s : b ≡ isKnown k) where
+  known : {t : Bool} → b ≡ t → isKnown (byte bs 3) ≡ t
+  known t = ap isKnown (sym e) ∙ sym s ∙ t
+
+  pub head-taken : {c : ℕ} {d : Due} → b ≡ true → c ≡ byte bs 1 → d ≡ goesTo (Address c k) → d ≡ dueHead bs
+  head-taken t q g = rw (known t) (g ∙ rw (q, e))
+
+  pub head-refused : {d : Due} → b ≡ false → d ≡ failsWith (Command 8) (Reply5 8) → d ≡ dueHead bs
+  head-refused t g = rw (known t) g
+
+-- ---- the seven bytes
+
+module _ (m : List ℕ) where
+  port : twoOf (drop 1 m) ≡ byte m 1 * 256 + byte m 2
+  port = rw (getD-drop 1 m 0 0, getD-drop 1 m 1 0)
+
+  pub ports-read : {a b c d e f g : ℕ} → a ≡ byte m 0 → b ≡ byte m 1 → c ≡ byte m 2 → d ≡ byte m 3 → e ≡ byte m 4 → f ≡ byte m 5 → g ≡ byte m 6
+      → record { command = a; port = b * 256 + c; first = d; second = e; third = f; fourth = g } ≡ portsOf m
+  ports-read a b c d e f g = rw (port, a, b, c, d, e, f, g)
+
+-- ---- an address that announces a name
+
+module _ (p : Ports) where
+  pub other-first : (p .first ≡ 0 → ⊥) → eqb (p .first) 0 ≡ announces (ipOf p)
+  unfolding announces
+  other-first f = rw (ne-eqb (p .first) 0 f)
+
+  module _ (a : p .first ≡ 0) where
+    pub other-second : (p .second ≡ 0 → ⊥) → eqb (p .second) 0 ≡ announces (ipOf p)
+    unfolding announces
+    other-second f = rw (a, ne-eqb (p .second) 0 f)
+
+    module _ (b : p .second ≡ 0) where
+      pub other-third : (p .third ≡ 0 → ⊥) → eqb (p .third) 0 ≡ announces (ipOf p)
+      unfolding announces
+      other-third f = rw (a, b, ne-eqb (p .third) 0 f)
+
+      pub by-fourth : p .third ≡ 0 → ltb 0 (p .fourth) ≡ announces (ipOf p)
+      unfolding announces
+      by-fourth d = rw (a, b, d)

@@ -1,0 +1,42 @@
+use mathlib.Core.List.{_++_}
+use Rattle.judging.proofs.Ways.{head-taken, head-refused}
+use borrow.Author.Needs.{needs}
+use Rattle.judging.proofs.judge_head.Statement.{statement}
+use Rattle.judging.proofs.judge_head.Tie as tie
+
+byte-requires : tie.Need-byte-requires
+byte-requires c κs = search needs
+
+is-known-requires : tie.Need-is-known-requires
+is-known-requires c κs = search needs
+
+byte-requires-2 : tie.Need-byte-requires-2
+byte-requires-2 c κs = search needs
+
+goes-to-requires : tie.Need-goes-to-requires
+goes-to-requires c κs = search needs
+
+returns : tie.Need-returns
+returns c =
+    let a = c .before .before .before .before .before .before .before .args in
+    head-taken (a .held .now ++ a .piece .now) (c .before .before .before .before .byte .ensures) (c .before .before .before .is-known .ensures) (c .before .before .if1 .taken) (c .before .byte2 .ensures) (c .goes-to .ensures)
+
+fails-requires : tie.Need-fails-requires
+fails-requires c κs = search needs
+
+returns-2 : tie.Need-returns-2
+returns-2 c =
+    let a = c .before .before .before .before .before .before .args in
+    head-refused (a .held .now ++ a .piece .now) (c .before .before .before .byte .ensures) (c .before .before .is-known .ensures) (c .before .if1 .left) (c .fails .ensures)
+
+pub judge-head-spec : {M : Type 1} → statement M
+judge-head-spec =
+    tie.close
+    (tie.spec
+    byte-requires
+    is-known-requires
+    byte-requires-2
+    goes-to-requires
+    returns
+    fails-requires
+    returns-2)

@@ -1,0 +1,177 @@
+-- F-3: which call is in turn, and that a refused one touches nothing.
+use Prim.Native.Nat.{ℕ, _<_}
+use native.Mathlib.Omega.{arith}
+use mathlib.Core.Path.{_≡_, refl, ap, sym, _∙_}
+use mathlib.Core.Logic.{_↔_}
+use mathlib.Core.Bool.{Bool, true, false, true≢false, cond, not}
+use mathlib.Core.List.{List, [], _∷_}
+use lib.ListN.{length}
+use lib.Dec.{leb, lit<}
+use borrow.Author.Tests.{lt-leb, leb-false, not-true}
+use Rattle.protocol.specs.declared.SocksError.{SocksError}
+use Rattle.protocol.specs.declared.SocksError.the-variants.{ShortOutput, UnexpectedEof, Settled}
+use Rattle.protocol.specs.declared.Answer.the-variants.{Accepted, Refused}
+use Rattle.protocol.specs.declared.Version.{Version}
+use Rattle.protocol.specs.Numbers.{answerNumber}
+use Rattle.protocol.specs.Bound.{Endpoint}
+use Rattle.protocol.specs.Opening.{_↣_, Answers, refuse}
+use Rattle.protocol.proofs.Openings.{all-passed, checked}
+use Rattle.serving.specs.declared.Stage.{Stage}
+use Rattle.serving.specs.declared.Stage.the-variants.{Awaiting, Asked, Open, Failed}
+use Rattle.serving.specs.End.{replyTo, stageAfter}
+use Rattle.judging.specs.Due.{sessionAt}
+use Rattle.serving_stages.specs.declared.Outcome.{Outcome}
+use Rattle.serving_stages.specs.declared.Outcome.the-variants as outcome
+use Rattle.serving_stages.specs.Told.{outcomeAt}
+use Rattle.serving_stages.specs.Answers.{refused, sends, answerAt}
+use Rattle.proxy_calls.specs.declared.Server.{Server}
+use Rattle.proxy_calls.specs.Server.{askedFor, heldBytes, view, packed, atStage, outcome as told}
+use Rattle.proxy_calls.specs.Calls.{Call, refusal, takes, deliver, answerBy, answer, end}
+use Rattle.proxy.specs.Turns.{Untouched, InTurn}
+use Rattle.talk.specs.Talk.{failed, ended, isOver}
+
+pub clash : {e : SocksError} → Accepted ≡ Refused e → ⊥
+clash p = let z : _≡_ {A = ℕ} 0 1 = cc in omega arith
+
+same-error : {d e : SocksError} → Refused d ≡ Refused e → d ≡ e
+same-error p = cc
+
+not-long : (m n : ℕ) → not (leb m n) ≡ true ↔ (n < m)
+not-long m n = (λ q. leb-false m n (not-true (leb m n) q), λ h. rw (lt-leb m n h))
+
+-- ---- it is over exactly when it does not wait, and asked exactly when the stage says so
+
+abbrev isWaiting : Outcome → Bool
+isWaiting outcome.Waiting = true
+isWaiting outcome.Asked = false
+isWaiting outcome.Open = false
+isWaiting (outcome.Failed e) = false
+
+abbrev pub isAsked : Outcome → Bool
+isAsked outcome.Waiting = false
+isAsked outcome.Asked = true
+isAsked outcome.Open = false
+isAsked (outcome.Failed e) = false
+
+over-just : (t : Stage) (x : Endpoint) (h : List ℕ) → isOver (sessionAt t x h) ≡ true ↔ (outcomeAt t ≡ outcome.Waiting → ⊥)
+over-just (Awaiting f) x h = (λ q. absurd (true≢false (sym q)), λ n. absurd (n refl))
+over-just (Asked v) x h = (λ q e. true≢false (sym (ap isWaiting e)), λ n. refl)
+over-just (Open v) x h = (λ q e. true≢false (sym (ap isWaiting e)), λ n. refl)
+over-just (Failed d) x h = (λ q e. true≢false (sym (ap isWaiting e)), λ n. refl)
+
+unasked-just : (t : Stage) → not (isAsked (outcomeAt t)) ≡ true ↔ (outcomeAt t ≡ outcome.Asked → ⊥)
+unasked-just (Awaiting f) = (λ q e. true≢false (sym (ap isAsked e)), λ n. refl)
+unasked-just (Asked v) = (λ q. absurd (true≢false (sym q)), λ n. absurd (n refl))
+unasked-just (Open v) = (λ q e. true≢false (sym (ap isAsked e)), λ n. refl)
+unasked-just (Failed d) = (λ q e. true≢false (sym (ap isAsked e)), λ n. refl)
+
+-- ---- a delivery and an end
+
+module _ (s : Server) (out : List ℕ) (k : Call) (x : k .answer ≡ Accepted) where
+  abbrev judged : Bool → Bool → Call
+  judged a b = cond a (refusal Settled s out) (cond b k (refusal ShortOutput s out))
+
+  refuses : (a b : Bool) → Untouched (judged a b) s out
+  refuses true b e q = rw (same-error q)
+  refuses false true e q = absurd (clash (sym x ∙ q))
+  refuses false false e q = rw (same-error q)
+
+  answered : (a b : Bool) → judged a b .answer ≡ refuse a Settled (refuse (not b) ShortOutput Accepted)
+  answered true b = refl
+  answered false true = x
+  answered false false = refl
+
+  accepts : (a b : Bool) → judged a b .answer ≡ Accepted → judged a b ≡ k
+  accepts true b q = absurd (clash (sym q))
+  accepts false true q = refl
+  accepts false false q = absurd (clash (sym q))
+
+takes-accepts : (s : Server) (piece out : List ℕ) → takes s piece out .answer ≡ Accepted
+takes-accepts s [] out = refl
+takes-accepts s (b ∷ bs) out = refl
+
+module _ (s : Server) where
+  over : isOver (view s) ≡ true ↔ (told s ≡ outcome.Waiting → ⊥)
+  over = over-just (s .stage) (askedFor s) (heldBytes s)
+
+  deliver-number : (piece out : List ℕ) → Answers (answerNumber (deliver s piece out .answer)) (((told s ≡ outcome.Waiting → ⊥) ↣ 16) ∷ ((length out < 262) ↣ 1) ∷ [])
+  unfolding deliver
+  deliver-number piece out =
+      rw (answered s out (takes s piece out) (takes-accepts s piece out) (isOver (view s)) (leb 262 (length out)))
+      (checked (isOver (view s)) _ Settled 16 _ _ refl (lit< tt) over
+      (checked (not (leb 262 (length out))) _ ShortOutput 1 Accepted [] refl (lit< tt) (not-long 262 (length out)) all-passed))
+
+  deliver-untouched : (piece out : List ℕ) → Untouched (deliver s piece out) s out
+  unfolding deliver
+  deliver-untouched piece out = refuses s out (takes s piece out) (takes-accepts s piece out) (isOver (view s)) (leb 262 (length out))
+
+  nothing : (out : List ℕ) → deliver s [] out .answer ≡ Accepted → deliver s [] out ≡ record { answer = Accepted; session = s; used = 0; sent = 0; output = out }
+  unfolding deliver
+  nothing out = accepts s out (takes s [] out) refl (isOver (view s)) (leb 262 (length out))
+
+  abbrev ending : Call
+  ending = record { answer = Accepted; session = packed s (ended (failed UnexpectedEof)); used = 0; sent = 0; output = [] }
+
+  end-number : Answers (answerNumber (end s .answer)) (((told s ≡ outcome.Waiting → ⊥) ↣ 16) ∷ [])
+  unfolding end
+  end-number =
+      rw (answered s [] ending refl (isOver (view s)) true)
+      (checked (isOver (view s)) _ Settled 16 Accepted [] refl (lit< tt) over all-passed)
+
+  end-untouched : Untouched (end s) s []
+  unfolding end
+  end-untouched = refuses s [] ending refl (isOver (view s)) true
+
+-- ---- the caller's answer, by the stage
+
+module _ (s : Server) (status : ℕ) (x : Endpoint) (out : List ℕ) where
+  -- at any stage
+  abbrev at : Stage → Call
+  at t = answerBy (atStage t s) (answerAt t status x out)
+
+  -- once it is asked, by whether the output is long enough
+  abbrev asked : Version → Bool → Call
+  asked v b = answerBy (atStage (Asked v) s) (cond b (sends (replyTo v status x) (stageAfter v status) out) (refused ShortOutput (Asked v) out))
+
+  at-answers : (t : Stage) → at t .answer ≡ refuse (not (isAsked (outcomeAt t))) Settled (refuse (not (leb 262 (length out))) ShortOutput Accepted)
+  at-answers (Awaiting f) = refl
+  at-answers (Asked v) = go (leb 262 (length out))
+    where
+      go : (b : Bool) → asked v b .answer ≡ refuse (not b) ShortOutput Accepted
+      go true = refl
+      go false = refl
+  at-answers (Open v) = refl
+  at-answers (Failed e) = refl
+
+  at-untouched : (t : Stage) → Untouched (at t) (atStage t s) out
+  at-untouched (Awaiting f) e q = rw (same-error q)
+  at-untouched (Asked v) e q = go (leb 262 (length out)) q
+    where
+      go : (b : Bool) → asked v b .answer ≡ Refused e → asked v b ≡ refusal e (atStage (Asked v) s) out
+      go true r = absurd (clash r)
+      go false r = rw (same-error r)
+  at-untouched (Open v) e q = rw (same-error q)
+  at-untouched (Failed d) e q = rw (same-error q)
+
+  answer-number : Answers (answerNumber (answer s status x out .answer)) (((told s ≡ outcome.Asked → ⊥) ↣ 16) ∷ ((length out < 262) ↣ 1) ∷ [])
+  unfolding answer
+  answer-number =
+      rw (at-answers (s .stage))
+      (checked (not (isAsked (told s))) _ Settled 16 _ _ refl (lit< tt) (unasked-just (s .stage))
+      (checked (not (leb 262 (length out))) _ ShortOutput 1 Accepted [] refl (lit< tt) (not-long 262 (length out)) all-passed))
+
+  answer-untouched : Untouched (answer s status x out) s out
+  unfolding answer
+  answer-untouched = at-untouched (s .stage)
+
+pub in-turn : (s : Server) → InTurn s
+in-turn s =
+    record {
+      deliver-number = deliver-number s;
+      answer-number = answer-number s;
+      end-number = end-number s;
+      deliver-untouched = deliver-untouched s;
+      answer-untouched = answer-untouched s;
+      end-untouched = end-untouched s;
+      nothing = nothing s;
+    }

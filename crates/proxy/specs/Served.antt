@@ -1,0 +1,67 @@
+-- F-3's promise, one claim over every list of deliveries to the proxy's end, as demand 3's: a field for each sentence.
+use mathlib.Core.Path.{_≡_}
+use mathlib.Core.Bool.{Bool}
+use mathlib.Core.List.{List, []}
+use Prim.Native.Nat.{ℕ}
+use lib.ListN.{drop}
+use Rattle.protocol.specs.declared.Answer.the-variants.{Accepted}
+use Rattle.protocol.specs.Bound.{Endpoint, unbound}
+use Rattle.serving.specs.End.{Setup, Standing, waits, asks, fails, machine, used}
+use Rattle.serving.specs.Side.{standingOf}
+use Rattle.destinations.specs.Last.{targetAs}
+use Rattle.serving_stages.specs.declared.Outcome.{Outcome}
+use Rattle.serving_stages.specs.declared.Outcome.the-variants.{Waiting, Asked, Failed}
+use Rattle.proxy_calls.specs.declared.Server.{Server}
+use Rattle.proxy_calls.specs.Server.{view, outcome, destination}
+use Rattle.proxy_calls.specs.Calls.{setUp, receiver}
+use Rattle.talk.specs.Tunnel.{Delivery, joined, Tunnel, tunnel}
+
+-- ---- the plain machine's state, as the calls tell it
+
+abbrev pub setupFor : Bool → List ℕ → List ℕ → Setup
+setupFor authenticates user password = record { authenticates = authenticates; user = user; password = password }
+
+abbrev pub outcomeBy : Standing → Outcome
+outcomeBy waits = Waiting
+outcomeBy (asks x) = Asked
+outcomeBy (fails e) = Failed e
+
+abbrev pub targetBy : Standing → Endpoint
+targetBy waits = unbound
+targetBy (asks x) = x .target
+targetBy (fails e) = unbound
+
+-- ---- deliveries, from an end that has sent nothing
+
+abbrev pub tunnelOf : Server → List Delivery → Tunnel Server
+tunnelOf s ds = tunnel receiver s [] ds
+
+abbrev pub joinedOf : List Delivery → List ℕ
+joinedOf ds = joined receiver ds
+
+-- what two tunnels have alike
+pub record Alike (t u : Tunnel Server) : Type 0 where
+  pub standings : standingOf (view (t .session)) ≡ standingOf (view (u .session))
+  pub sent : t .sent ≡ u .sent
+  pub count : t .count ≡ u .count
+  pub rest : t .rest ≡ u .rest
+
+-- of what an end was set up with, and the end that set-up returned
+pub record Served (c : Setup) (s : Server) (ds : List Delivery) : Type 0 where
+  -- all sent bytes are the plain machine's on the joined bytes
+  pub sent-as : tunnelOf s ds .sent ≡ machine c (joinedOf ds) .sent
+  -- so is how it stands: it waits, or asks for a destination in a version, or has failed with a number and status
+  pub standing-as : standingOf (view (tunnelOf s ds .session)) ≡ machine c (joinedOf ds) .standing
+  -- which the calls tell: the outcome, and the destination handed out
+  pub outcome-as : outcome (tunnelOf s ds .session) ≡ outcomeBy (machine c (joinedOf ds) .standing)
+  pub destination-as : destination (tunnelOf s ds .session) ≡ targetAs (targetBy (machine c (joinedOf ds) .standing))
+  -- so is the total count, and the rests joined are exactly the joined bytes after it
+  pub count-as : tunnelOf s ds .count ≡ used c (joinedOf ds)
+  pub rests-are : tunnelOf s ds .rest ≡ drop (tunnelOf s ds .count) (joinedOf ds)
+  -- two lists with equal joined bytes are alike in all of these
+  pub alike : (ds′ : List Delivery) → joinedOf ds′ ≡ joinedOf ds → Alike (tunnelOf s ds′) (tunnelOf s ds)
+
+-- for every set-up that is accepted, and every list of deliveries to what it returned
+abbrev pub Serving : Type 0
+Serving = (authenticates : Bool) (user password : List ℕ) → setUp authenticates user password .answer ≡ Accepted → (ds : List Delivery)
+    → Served (setupFor authenticates user password) (setUp authenticates user password .server) ds

@@ -1,0 +1,30 @@
+-- F-3: which call is in turn. Of any end, set up or not: 16 for a call out of turn, then 1 for output under 262, and a refused call touches nothing.
+use Prim.Native.Nat.{ℕ, _<_}
+use mathlib.Core.Path.{_≡_}
+use mathlib.Core.List.{List, [], _∷_}
+use lib.ListN.{length}
+use Rattle.protocol.specs.declared.Answer.the-variants.{Accepted, Refused}
+use Rattle.protocol.specs.declared.SocksError.{SocksError}
+use Rattle.protocol.specs.Numbers.{answerNumber}
+use Rattle.protocol.specs.Bound.{Endpoint}
+use Rattle.protocol.specs.Opening.{_↣_, Answers}
+use Rattle.serving_stages.specs.declared.Outcome.the-variants.{Waiting, Asked}
+use Rattle.proxy_calls.specs.declared.Server.{Server}
+use Rattle.proxy_calls.specs.Server.{outcome}
+use Rattle.proxy_calls.specs.Calls.{Call, refusal, deliver, answer, end}
+
+-- a refused call answers with its number, and uses, sends and changes nothing
+abbrev pub Untouched : Call → Server → List ℕ → Type 0
+Untouched c s out = (e : SocksError) → c .answer ≡ Refused e → c ≡ refusal e s out
+
+pub record InTurn (s : Server) : Type 0 where
+  -- bytes are in turn while it waits, the caller's answer while it is asked
+  pub deliver-number : (piece out : List ℕ) → Answers (answerNumber (deliver s piece out .answer)) (((outcome s ≡ Waiting → ⊥) ↣ 16) ∷ ((length out < 262) ↣ 1) ∷ [])
+  pub answer-number : (status : ℕ) (x : Endpoint) (out : List ℕ)
+      → Answers (answerNumber (answer s status x out .answer)) (((outcome s ≡ Asked → ⊥) ↣ 16) ∷ ((length out < 262) ↣ 1) ∷ [])
+  pub end-number : Answers (answerNumber (end s .answer)) (((outcome s ≡ Waiting → ⊥) ↣ 16) ∷ [])
+  pub deliver-untouched : (piece out : List ℕ) → Untouched (deliver s piece out) s out
+  pub answer-untouched : (status : ℕ) (x : Endpoint) (out : List ℕ) → Untouched (answer s status x out) s out
+  pub end-untouched : Untouched (end s) s []
+  -- an empty piece in turn changes nothing
+  pub nothing : (out : List ℕ) → deliver s [] out .answer ≡ Accepted → deliver s [] out ≡ record { answer = Accepted; session = s; used = 0; sent = 0; output = out }

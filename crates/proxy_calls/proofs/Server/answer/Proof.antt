@@ -1,0 +1,23 @@
+use Rattle.serving_replies.specs.Replies.{endpointOf}
+use Rattle.proxy_calls.proofs.Laws.{answers}
+use borrow.Author.Needs.{needs}
+use Rattle.proxy_calls.proofs.Server.answer.Statement.{statement}
+use Rattle.proxy_calls.proofs.Server.answer.Tie as tie
+use Rattle.proxy_calls.proofs.Server.answer.Reads as reads
+use Rattle.proxy_calls.proofs.Server.answer.Lts as lts
+use Rattle.serving_stages.proofs.answer.Reads as answer-reads
+
+-- src/lib.rt:192:13
+answer-requires : tie.Need-answer-requires
+answer-requires c κs = search needs
+
+-- src/lib.rt:188:5
+same-length : tie.Need-same-length
+same-length c = search needs
+
+-- src/lib.rt:188:5
+returns : tie.Need-returns
+returns c = let a = c .before .before .before .before .before .before .before .before .before .args in answers (a .self) (a .status) (endpointOf (a .bound) (a .port)) (a .out .now) (c .before .before .before .before .before .before .answer .ensures)
+
+pub answer-spec : {M : Type 1} → statement M
+answer-spec = tie.close (tie.spec answer-requires same-length returns)

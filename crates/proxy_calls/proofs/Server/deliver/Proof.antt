@@ -1,0 +1,89 @@
+use native.Mathlib.Omega.{arith}
+use Prim.Native.Nat.{ℕ, _≤_, _<_}
+use mathlib.Core.Path.{_≡_, sym}
+use lib.ListN.{length}
+use lib.Seq.{length-take-le}
+use Rattle.proxy_calls.proofs.Laws.{delivers}
+use borrow.Author.Needs.{needs}
+use Rattle.proxy_calls.proofs.Server.deliver.Statement.{statement}
+use Rattle.proxy_calls.proofs.Server.deliver.Tie as tie
+use Rattle.proxy_calls.proofs.Server.deliver.Reads as reads
+use Rattle.proxy_calls.proofs.Server.deliver.Lts as lts
+use Rattle.serving_pieces.proofs.receive.Reads as receive-reads
+use Rattle.wire.proofs.wide.Reads as wide-reads
+
+-- a credential's length is a byte, and its array has as many
+user-long : (c : tie.Start) → length (c .args .self .user .bytes) ≡ 255
+user-long c = search needs
+
+user-small : (c : tie.Start) → c .args .self .user .len < 256
+user-small c = search needs
+
+user-inside : (c : tie.Start) {n : ℕ} → n ≡ c .args .self .user .len → n ≤ length (c .args .self .user .bytes)
+user-inside c e = omega (arith, user-long c, user-small c)
+
+password-long : (c : tie.Start) → length (c .args .self .password .bytes) ≡ 255
+password-long c = search needs
+
+password-small : (c : tie.Start) → c .args .self .password .len < 256
+password-small c = search needs
+
+password-inside : (c : tie.Start) {n : ℕ} → n ≡ c .args .self .password .len → n ≤ length (c .args .self .password .bytes)
+password-inside c e = omega (arith, password-long c, password-small c)
+
+-- src/lib.rt:152:13
+wide-requires : tie.Need-wide-requires
+wide-requires c κs = search needs
+
+-- src/lib.rt:153:13
+wide-requires-2 : tie.Need-wide-requires-2
+wide-requires-2 c κs = search needs
+
+-- src/lib.rt:159:13
+array-share-prefix-user-bytes : tie.Need-array-share-prefix-user-bytes
+array-share-prefix-user-bytes c = user-inside (c .before .before .before .before .before .before .before .before .before .before) (c .before .before .wide .ensures)
+
+-- src/lib.rt:159:13
+slice-aggregate-receive : tie.Need-slice-aggregate-receive
+slice-aggregate-receive c = sym (length-take-le _ _ (user-inside (c .before .before .before .before .before .before .before .before .before .before .before) (c .before .before .before .wide .ensures)))
+
+-- src/lib.rt:160:13
+array-share-prefix-password-bytes : tie.Need-array-share-prefix-password-bytes
+array-share-prefix-password-bytes c = password-inside (c .before .before .before .before .before .before .before .before .before .before .before) (c .before .before .wide2 .ensures)
+
+-- src/lib.rt:160:13
+slice-aggregate-receive-2 : tie.Need-slice-aggregate-receive-2
+slice-aggregate-receive-2 c = sym (length-take-le _ _ (password-inside (c .before .before .before .before .before .before .before .before .before .before .before .before) (c .before .before .before .wide2 .ensures)))
+
+-- src/lib.rt:161:13
+slice-aggregate-receive-3 : tie.Need-slice-aggregate-receive-3
+slice-aggregate-receive-3 c = search needs
+
+-- src/lib.rt:155:13
+receive-requires : tie.Need-receive-requires
+receive-requires c κs = search needs
+
+-- src/lib.rt:143:5
+same-length : tie.Need-same-length
+same-length c = search needs
+
+-- src/lib.rt:143:5
+returns : tie.Need-returns
+returns c =
+    let a = c .before .before .before .before .before .before .before .before .before .before .before .before .before .before .before .before .before .before .before .before .args in
+    delivers (a .self) (a .piece .now) (a .out .now) (rw (c .before .before .before .before .before .before .before .before .before .before .before .before .wide .ensures, c .before .before .before .before .before .before .before .before .before .before .before .wide2 .ensures) at (c .before .before .before .before .before .receive .ensures))
+
+pub deliver-spec : {M : Type 1} → statement M
+deliver-spec =
+    tie.close
+    (tie.spec
+    wide-requires
+    wide-requires-2
+    array-share-prefix-user-bytes
+    slice-aggregate-receive
+    array-share-prefix-password-bytes
+    slice-aggregate-receive-2
+    slice-aggregate-receive-3
+    receive-requires
+    same-length
+    returns)

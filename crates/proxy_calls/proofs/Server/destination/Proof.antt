@@ -1,0 +1,69 @@
+use native.Mathlib.Omega.{arith}
+use mathlib.Core.Path.{_≡_, sym, _∙_}
+use lib.ListN.{length}
+use lib.Seq.{length-take-le}
+use borrow.Author.Tests.{not-true, not-false}
+use Rattle.proxy_calls.proofs.Laws.{no-destination, destination-is}
+use borrow.Author.Needs.{needs}
+use Rattle.proxy_calls.proofs.Server.destination.Statement.{statement}
+use Rattle.proxy_calls.proofs.Server.destination.Tie as tie
+use Rattle.proxy_calls.proofs.Server.destination.Reads as reads
+use Rattle.proxy_calls.proofs.Server.destination.Lts as lts
+use Rattle.destinations.proofs.as_target.Reads as as-target-reads
+use Rattle.proxy_calls.proofs.no_target.Reads as no-target-reads
+use Rattle.serving_stages.proofs.has_destination.Reads as has-destination-reads
+use Rattle.wire.proofs.least.Reads as least-reads
+
+hold-long : (c : tie.Start) → length (c .args .self .hold) ≡ 1014
+hold-long c = search needs
+
+-- src/lib.rt:255:13
+has-destination-requires : tie.Need-has-destination-requires
+has-destination-requires c κs = search needs
+
+-- src/lib.rt:256:13
+no-target-requires : tie.Need-no-target-requires
+no-target-requires c κs = search needs
+
+-- src/lib.rt:256:13
+returns : tie.Need-returns
+returns c = c .no-target .ensures ∙ no-destination (c .before .before .before .before .before .args .self) (c .before .before .has-destination .ensures) (not-true _ (c .before .if1 .taken))
+
+-- src/lib.rt:258:13
+least-requires : tie.Need-least-requires
+least-requires c κs = search needs
+
+-- src/lib.rt:259:26
+array-share-prefix-hold : tie.Need-array-share-prefix-hold
+array-share-prefix-hold c =
+    let e = c .least .ensures in
+    omega (arith, hold-long (c .before .before .before .before .before))
+
+-- src/lib.rt:259:26
+slice-aggregate-as-target : tie.Need-slice-aggregate-as-target
+slice-aggregate-as-target c =
+    let e = c .before .least .ensures in
+    sym (length-take-le _ _ (omega (arith, hold-long (c .before .before .before .before .before .before))))
+
+-- src/lib.rt:259:9
+as-target-requires : tie.Need-as-target-requires
+as-target-requires c κs = search needs
+
+-- src/lib.rt:249:5
+returns-2 : tie.Need-returns-2
+returns-2 c =
+    let start = c .before .before .before .before .before .before .before in
+    c .as-target .ensures ∙ destination-is (start .args .self) (c .before .before .before .before .has-destination .ensures) (not-false _ (c .before .before .before .if1 .left)) (c .before .before .least .ensures) (hold-long start)
+
+pub destination-spec : {M : Type 1} → statement M
+destination-spec =
+    tie.close
+    (tie.spec
+    has-destination-requires
+    no-target-requires
+    returns
+    least-requires
+    array-share-prefix-hold
+    slice-aggregate-as-target
+    as-target-requires
+    returns-2)

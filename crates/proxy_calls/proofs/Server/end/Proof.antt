@@ -1,0 +1,18 @@
+use Rattle.proxy_calls.proofs.Laws.{ends-as}
+use borrow.Author.Needs.{needs}
+use Rattle.proxy_calls.proofs.Server.end.Statement.{statement}
+use Rattle.proxy_calls.proofs.Server.end.Tie as tie
+use Rattle.proxy_calls.proofs.Server.end.Reads as reads
+use Rattle.proxy_calls.proofs.Server.end.Lts as lts
+use Rattle.serving_stages.proofs.end.Reads as end-reads
+
+-- src/lib.rt:219:13
+end-requires : tie.Need-end-requires
+end-requires c κs = search needs
+
+-- src/lib.rt:215:5
+returns : tie.Need-returns
+returns c = ends-as (c .before .before .before .before .before .args .self) (c .before .before .before .before .end .ensures)
+
+pub end-spec : {M : Type 1} → statement M
+end-spec = tie.close (tie.spec end-requires returns)

@@ -1,0 +1,33 @@
+use native.Mathlib.Omega.{arith}
+use Prim.Native.Nat.{_%_}
+use mathlib.Core.Path.{_≡_}
+use lib.ListN.{length}
+use Rattle.wire.proofs.Laws.{zeros-under}
+use borrow.Author.Needs.{needs}
+use Rattle.proxy_calls.proofs.credential_of.Statement.{statement}
+use Rattle.proxy_calls.proofs.credential_of.Tie as tie
+use Rattle.proxy_calls.proofs.credential_of.Reads as reads
+use Rattle.proxy_calls.proofs.credential_of.Lts as lts
+use Rattle.wire.proofs.copy.Reads as copy-reads
+
+-- src/lib.rt:74:10
+slice-aggregate-copy : tie.Need-slice-aggregate-copy
+slice-aggregate-copy c = search needs
+
+-- src/lib.rt:74:5
+copy-requires : tie.Need-copy-requires
+copy-requires c κs = search needs
+
+-- src/lib.rt:76:14
+cast-t7 : tie.Need-cast-t7
+cast-t7 c = search needs
+
+-- src/lib.rt:69:1
+returns : tie.Need-returns
+returns c =
+    let a = c .before .before .before .before in
+    let n : length (a .args .text .now) % 256 ≡ length (a .args .text .now) = omega (arith, a .pre) in
+    λ i. record { len = n i; bytes = zeros-under 255 (c .before .copy .ensures) i }
+
+pub credential-of-spec : {M : Type 1} → statement M
+credential-of-spec = tie.close (tie.spec slice-aggregate-copy copy-requires cast-t7 returns)

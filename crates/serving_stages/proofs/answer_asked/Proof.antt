@@ -1,0 +1,39 @@
+use Rattle.serving_replies.specs.Replies.{endpointOf}
+use Rattle.serving_stages.proofs.Laws.{answers-short, answers-sent}
+use borrow.Author.Needs.{needs}
+use Rattle.serving_stages.proofs.answer_asked.Statement.{statement}
+use Rattle.serving_stages.proofs.answer_asked.Tie as tie
+
+unanswered-requires : tie.Need-unanswered-requires
+unanswered-requires c κs = search needs
+
+put-answer-requires : tie.Need-put-answer-requires
+put-answer-requires c κs = search needs
+
+stage-after-requires : tie.Need-stage-after-requires
+stage-after-requires c κs = search needs
+
+same-length : tie.Need-same-length
+same-length c = search needs
+
+returns-2 : tie.Need-returns-2
+returns-2 c =
+    let d = c .before .before .before in
+    let a = d .before .before .before .before .args in
+    answers-sent (a .version) (a .status) (endpointOf (a .bound) (a .port)) (d .before .before .if1 .left) (d .put-answer .ensures) (c .stage-after .ensures)
+
+returns : tie.Need-returns
+returns c =
+    let a = c .before .before .before .args in
+    answers-short (a .version) (a .status) (endpointOf (a .bound) (a .port)) (c .before .if1 .taken) (c .unanswered .ensures)
+
+pub answer-asked-spec : {M : Type 1} → statement M
+answer-asked-spec =
+    tie.close
+    (tie.spec
+    unanswered-requires
+    returns
+    put-answer-requires
+    stage-after-requires
+    same-length
+    returns-2)

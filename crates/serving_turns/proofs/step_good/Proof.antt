@@ -1,0 +1,48 @@
+use Prim.Native.Nat.{_≤_}
+use mathlib.Core.List.{_++_}
+use lib.ListN.{length, length-append}
+use Rattle.serving_turns.proofs.Laws.{stepping}
+use native.Mathlib.Omega.{arith}
+use Rattle.judging.proofs.Laws.{rank-bounds}
+use borrow.Author.Needs.{needs}
+use Rattle.serving_turns.proofs.step_good.Statement.{statement}
+use Rattle.serving_turns.proofs.step_good.Tie as tie
+use Rattle.serving_turns.proofs.step_good.Reads as reads
+use Rattle.serving_turns.proofs.step_good.Lts as lts
+use Rattle.serving_replies.proofs.put.Reads as put-reads
+use Rattle.serving_turns.proofs.awaited.Reads as awaited-reads
+use Rattle.serving_turns.proofs.judge_at.Reads as judge-at-reads
+
+-- src/lib.rt:113:9
+judge-at-requires : tie.Need-judge-at-requires
+judge-at-requires c κs = search needs
+
+-- src/lib.rt:116:9
+put-requires : tie.Need-put-requires
+put-requires c κs =
+    let start = c .before .before .before .before .before .before .before in
+    let r = rank-bounds (start .args .field) in
+    omega (arith, start .pre)
+
+-- src/lib.rt:117:9
+awaited-requires : tie.Need-awaited-requires
+awaited-requires c κs = search needs
+
+-- src/lib.rt:97:1
+same-length : tie.Need-same-length
+same-length c = search needs
+
+-- src/lib.rt:97:1
+returns : tie.Need-returns
+returns c =
+    let start = c .before .before .before .before .before .before .before .before .before .before .before in
+    let a = start .args in
+    let r = start .pre in
+    let due = c .before .before .before .before .before .judge-at in
+    let said = c .before .before .before .put in
+    let h : a .begin ≤ length (a .held .now ++ a .piece .now) = omega (arith, length-append (a .held .now) (a .piece .now), r .0) in
+    stepping (a .place) h (r .0 .0) (r .1) (due .result) (due .ensures) (said .result) (said .ensures) (c .awaited .result) (c .awaited .ensures)
+
+pub step-good-spec : {M : Type 1} → statement M
+step-good-spec =
+    tie.close (tie.spec judge-at-requires put-requires awaited-requires same-length returns)
