@@ -93,8 +93,9 @@ impl<C: Cut> Smaller<'_, C> {
 
     fn pieces(&mut self, now: &[C::Call], ways: impl Fn(&[u8], u8) -> Vec<Vec<u8>>) {
         for (i, call) in now.iter().enumerate().take(TRIED) {
-            let cut = call.clone().piece().map_or(vec![], |piece| ways(piece, 0));
-            cut.into_iter().for_each(|text| self.add(|c| drop(c.calls()[i].piece().map(|piece| *piece = text))));
+            for text in call.clone().piece().map_or(vec![], |piece| ways(piece, 0)) {
+                self.add(|c| c.calls()[i] = Call::delivery(*c.calls()[i].lent(), &text));
+            }
         }
     }
 }
