@@ -1,5 +1,5 @@
-//! A case of `replay`: what preparing, the start, the deliveries and the text are given, and its bytes. What a case of
-//! `replay_route` shares with it.
+//! A case of `replay`: what preparing, the start, the deliveries and the text are given, and its bytes. What the cases
+//! of `replay_route` and `replay_proxy` share with it.
 
 pub const CREDENTIALS: u8 = 1;
 pub const LOCAL_LOOKUP: u8 = 2;
@@ -11,7 +11,7 @@ pub const TEXT: u8 = 32;
 pub const ATTEMPTS: u8 = 64;
 
 // Output or a text buffer lent above this counts as this.
-const MOST_LENT: u16 = 2048;
+pub const MOST_LENT: u16 = 2048;
 
 // Family 4 or 6, and the address, of which family 4 uses the first four bytes.
 pub type Record = (u8, [u8; 16]);
@@ -41,14 +41,37 @@ pub fn lent(n: u16) -> usize {
     n.min(MOST_LENT).into()
 }
 
-// What the cases of a session and those of a route have in common.
+// A call behind the opening: a delivery, or another.
+pub trait Call: Clone {
+    fn delivery(lent: u16, piece: &[u8]) -> Self;
+    fn lent(&mut self) -> &mut u16;
+    // of a delivery
+    fn piece(&mut self) -> Option<&mut Vec<u8>>;
+}
+
+impl Call for Delivery {
+    fn delivery(lent: u16, piece: &[u8]) -> Self {
+        Delivery { lent, piece: piece.to_vec() }
+    }
+
+    fn lent(&mut self) -> &mut u16 {
+        &mut self.lent
+    }
+
+    fn piece(&mut self) -> Option<&mut Vec<u8>> {
+        Some(&mut self.piece)
+    }
+}
+
+// What the cases of a session, of a route and of a proxy's end have in common.
 pub trait Fed: Clone + PartialEq {
     // Output that is enough for any call.
     const ENOUGH: u16;
+    type Call: Call;
 
     fn write(&self, out: &mut Vec<u8>);
     fn flags(&mut self) -> &mut u8;
-    fn deliveries(&mut self) -> &mut Vec<Delivery>;
+    fn calls(&mut self) -> &mut Vec<Self::Call>;
 
     fn bytes(&self) -> Vec<u8> {
         let mut out = Vec::new();
@@ -63,7 +86,7 @@ pub trait Fed: Clone + PartialEq {
 
     // A delivery that lends so much.
     fn piece_lent(mut self, lent: u16, piece: &[u8]) -> Self {
-        self.deliveries().push(Delivery { lent, piece: piece.to_vec() });
+        self.calls().push(Self::Call::delivery(lent, piece));
         self
     }
 
@@ -84,20 +107,23 @@ pub fn write_text(out: &mut Vec<u8>, bytes: &[u8]) {
 
 pub fn write_deliveries(out: &mut Vec<u8>, deliveries: &[Delivery]) {
     out.extend((deliveries.len() as u16).to_be_bytes());
-    for d in deliveries {
-        out.extend(d.lent.to_be_bytes());
-        write_text(out, &d.piece);
-    }
+    deliveries.iter().for_each(|d| write_delivery(out, d.lent, &d.piece));
+}
+
+pub fn write_delivery(out: &mut Vec<u8>, lent: u16, piece: &[u8]) {
+    out.extend(lent.to_be_bytes());
+    write_text(out, piece);
 }
 
 impl Fed for Case {
     const ENOUGH: u16 = MOST_LENT;
+    type Call = Delivery;
 
     fn flags(&mut self) -> &mut u8 {
         &mut self.flags
     }
 
-    fn deliveries(&mut self) -> &mut Vec<Delivery> {
+    fn calls(&mut self) -> &mut Vec<Delivery> {
         &mut self.deliveries
     }
 
@@ -140,7 +166,7 @@ impl Case {
     }
 }
 
-fn take<'a>(left: &mut &'a [u8], n: usize) -> Option<&'a [u8]> {
+pub fn take<'a>(left: &mut &'a [u8], n: usize) -> Option<&'a [u8]> {
     let (taken, rest) = left.split_at_checked(n)?;
     *left = rest;
     Some(taken)
@@ -159,12 +185,12 @@ pub fn read_text(left: &mut &[u8]) -> Option<Vec<u8>> {
     Some(take(left, n.into())?.to_vec())
 }
 
-fn read_record(left: &mut &[u8]) -> Option<Record> {
+pub fn read_record(left: &mut &[u8]) -> Option<Record> {
     let family = byte(left).filter(|f| [4, 6].contains(f))?;
     Some((family, take(left, 16)?.try_into().ok()?))
 }
 
-fn read_delivery(left: &mut &[u8]) -> Option<Delivery> {
+pub fn read_delivery(left: &mut &[u8]) -> Option<Delivery> {
     Some(Delivery { lent: number(left)?, piece: read_text(left)? })
 }
 

@@ -20,6 +20,8 @@ fn excess(case: &Case, line: &Line) -> isize {
 }
 
 impl Held for Case {
+    type Line = Line;
+
     fn model(&self) -> Line {
         model::answer(self)
     }

@@ -1,7 +1,6 @@
-//! A program held against the expected side, case by case: what a session's cases and a route's have in common.
+//! A program held against the expected side, case by case: what the cases of all such programs have in common.
 use crate::case::hex;
 use crate::shrink::{Cut, Differs, shrink};
-use crate::tunnel::Line;
 use std::io::Write;
 use std::process::{Command, Stdio};
 use std::thread;
@@ -12,10 +11,18 @@ const BATCH: u64 = 4000;
 // Differences that are cut down; the others are counted.
 const SHOWN: usize = 10;
 
+// A case's line.
+pub trait Says: Clone {
+    fn text(&self) -> String;
+    fn sent(&mut self) -> &mut Vec<u8>;
+}
+
 pub trait Held: Cut {
-    fn model(&self) -> Line;
+    type Line: Says;
+
+    fn model(&self) -> Self::Line;
     // The line, or what the original says against the model's.
-    fn expect(&self) -> Result<Line, String>;
+    fn expect(&self) -> Result<Self::Line, String>;
     // What is wrong with the model's attempts, if anything.
     fn miscounted(&self) -> Option<String>;
 }
@@ -61,8 +68,8 @@ pub fn ask<C: Held>(program: &str, cases: &[C]) -> Vec<String> {
 // ---- the expected side
 
 // One sent byte changed, if there is one.
-fn plant(mut line: Line) -> Line {
-    if let Some(last) = line.sent.last_mut() {
+fn plant<L: Says>(mut line: L) -> L {
+    if let Some(last) = line.sent().last_mut() {
         *last ^= 1;
     }
     line
@@ -123,7 +130,7 @@ impl<C: Held> Run<C> {
     }
 
     // The original against the model, and the model's attempts against their bound; answers the line if they agree.
-    fn check(&mut self, number: u64, case: &C) -> Option<Line> {
+    fn check(&mut self, number: u64, case: &C) -> Option<C::Line> {
         let modelled = |small: &C| format!("model    {}", small.model().text());
         if case.miscounted().is_some() {
             self.show(number, case, &|cases| cases.iter().position(|c| c.miscounted().is_some()), &|small| {
@@ -140,11 +147,11 @@ impl<C: Held> Run<C> {
     }
 
     // The program against both.
-    fn hold(&mut self, number: u64, case: &C, mut wanted: Line, line: &str) {
+    fn hold(&mut self, number: u64, case: &C, mut wanted: C::Line, line: &str) {
         let Some(program) = self.program.clone() else {
             return;
         };
-        let planted = self.plant.is_some_and(|n| n <= number) && !wanted.sent.is_empty();
+        let planted = self.plant.is_some_and(|n| n <= number) && !wanted.sent().is_empty();
         if planted {
             self.plant = None;
             wanted = plant(wanted);

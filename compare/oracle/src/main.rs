@@ -15,6 +15,7 @@ mod hold;
 mod list;
 mod load;
 mod model;
+mod proxy;
 mod route;
 mod rt;
 mod rust;
@@ -36,6 +37,10 @@ oracle route-self SEED COUNT                 routes: the original, proxy by prox
 oracle route-random SEED COUNT PROGRAM [--plant N]  and the program PROGRAM against both
 oracle route-list DIR                        writes the kept list of routes and its answers
 oracle route-answers                         what the model says of the routes on standard input
+oracle proxy-self SEED COUNT                 the proxy's end: the original, as its client, against the model
+oracle proxy-random SEED COUNT PROGRAM [--plant N]  and the program PROGRAM against both
+oracle proxy-list DIR                        writes the kept list of the proxy's end and its answers
+oracle proxy-answers                         what the model says of the cases of a proxy's end on standard input
 oracle one                                   what the original says of one case on standard input
 oracle call VERSION URI                      what its wrapper sends for a URI
 oracle load COUNT SEED [bytes]               the load of F-13 on the original
@@ -51,8 +56,8 @@ fn one() -> Result<bool, String> {
     Ok(said(expect::show(&case::Case::read(&input()?).ok_or("no case")?)))
 }
 
-fn route_answers() -> Result<bool, String> {
-    print!("{}", route::model::answers(&input()?));
+fn answers(of: fn(&[u8]) -> String) -> Result<bool, String> {
+    print!("{}", of(&input()?));
     Ok(true)
 }
 
@@ -93,7 +98,16 @@ fn run(args: &[&str]) -> Result<bool, String> {
             Ok(route::compare::random(number(seed)?, number(count)?, Some(program), Some(number(n)?)))
         }
         ["route-list", dir] => route::list::write(dir).map(|()| true),
-        ["route-answers"] => route_answers(),
+        ["route-answers"] => answers(route::model::answers),
+        ["proxy-self", seed, count] => Ok(proxy::compare::random(number(seed)?, number(count)?, None, None)),
+        ["proxy-random", seed, count, program] => {
+            Ok(proxy::compare::random(number(seed)?, number(count)?, Some(program), None))
+        }
+        ["proxy-random", seed, count, program, "--plant", n] => {
+            Ok(proxy::compare::random(number(seed)?, number(count)?, Some(program), Some(number(n)?)))
+        }
+        ["proxy-list", dir] => proxy::list::write(dir).map(|()| true),
+        ["proxy-answers"] => answers(proxy::model::answers),
         ["one"] => one(),
         ["call", version, uri] => call::call(version, uri).map(said),
         ["load", count, seed] => Ok(timed_load(number(count)?, number(seed)? as u32, false)),

@@ -55,7 +55,7 @@ pub fn fewer<T: Clone>(list: &[T]) -> Vec<Vec<T>> {
 // Copies of a case, each changed, as far as that makes it smaller.
 pub struct Smaller<'a, C>(&'a C, Vec<C>);
 
-// Only the first deliveries are tried one by one.
+// Only the first calls are tried one by one.
 const TRIED: usize = 40;
 
 impl<C: Cut> Smaller<'_, C> {
@@ -71,27 +71,31 @@ impl<C: Cut> Smaller<'_, C> {
         flags.iter().for_each(|flag| self.add(|c| *c.flags() &= !flag));
     }
 
-    // A list of deliveries changed: some left out, two in one, each piece cut.
-    pub fn coarse_deliveries(&mut self, now: &[Delivery]) {
-        fewer(now).into_iter().for_each(|list| self.add(|c| *c.deliveries() = list));
+    // A list of calls changed: some left out, two deliveries in one, each piece cut.
+    pub fn coarse_calls(&mut self, now: &[C::Call]) {
+        fewer(now).into_iter().for_each(|list| self.add(|c| *c.calls() = list));
         self.pieces(now, |piece, _| shorter(piece));
         for i in 1..now.len().min(TRIED) {
             self.add(|c| {
-                let next = c.deliveries().remove(i).piece;
-                c.deliveries()[i - 1].piece.extend(next);
-                c.deliveries()[i - 1].piece.truncate(65535);
+                let mut next = c.calls().remove(i);
+                if let (Some(piece), Some(more)) = (c.calls()[i - 1].piece(), next.piece()) {
+                    piece.append(more);
+                    piece.truncate(65535);
+                }
             });
         }
     }
 
-    pub fn fine_deliveries(&mut self, now: &[Delivery]) {
-        (0..now.len().min(TRIED)).for_each(|i| self.add(|c| c.deliveries()[i].lent = C::ENOUGH));
+    pub fn fine_calls(&mut self, now: &[C::Call]) {
+        (0..now.len().min(TRIED)).for_each(|i| self.add(|c| *c.calls()[i].lent() = C::ENOUGH));
         self.pieces(now, plainer);
     }
 
-    fn pieces(&mut self, now: &[Delivery], ways: impl Fn(&[u8], u8) -> Vec<Vec<u8>>) {
-        for (i, d) in now.iter().enumerate().take(TRIED) {
-            ways(&d.piece, 0).into_iter().for_each(|piece| self.add(|c| c.deliveries()[i].piece = piece));
+    fn pieces(&mut self, now: &[C::Call], ways: impl Fn(&[u8], u8) -> Vec<Vec<u8>>) {
+        for (i, call) in now.iter().enumerate().take(TRIED) {
+            for text in call.clone().piece().map_or(vec![], |piece| ways(piece, 0)) {
+                self.add(|c| c.calls()[i] = Call::delivery(*c.calls()[i].lent(), &text));
+            }
         }
     }
 }
@@ -119,7 +123,7 @@ impl Cut for Case {
     }
 
     fn coarse(&self, all: &mut Smaller<Case>) {
-        all.coarse_deliveries(&self.deliveries);
+        all.coarse_calls(&self.deliveries);
         fewer(&self.records).into_iter().for_each(|list| all.add(|c| c.records = list));
         Case::texts(all, |text, _| shorter(text));
     }
@@ -131,7 +135,7 @@ impl Cut for Case {
         all.add(|c| c.port = 443);
         all.add(|c| c.lent = 2048);
         (0..self.records.len()).for_each(|i| all.add(|c| c.records[i].1 = [0; 16]));
-        all.fine_deliveries(&self.deliveries);
+        all.fine_calls(&self.deliveries);
         Case::texts(all, plainer);
     }
 }

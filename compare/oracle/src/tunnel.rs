@@ -1,6 +1,7 @@
 //! What deliveries and an end come to, field by field: those of one session, or of a route's sessions in turn. Written
 //! from documents 01 and 02, as the model is.
 use crate::case::{ATTEMPTS, END, hex};
+use crate::hold::Says;
 use crate::model::{State, Step, machine};
 
 // The line of `replay`. No outcome is waiting, 0 is open, any other number is the failure's. The bound address's
@@ -21,7 +22,11 @@ pub struct Line {
 
 impl Line {
     pub fn text(&self) -> String {
-        let outcome = self.outcome.map_or("waiting".into(), |n| n.to_string());
+        self.text_with(&self.outcome.map_or("waiting".into(), |n| n.to_string()))
+    }
+
+    // The same, with another word for the outcome.
+    pub fn text_with(&self, outcome: &str) -> String {
         let answers = self.answers.iter().map(u8::to_string).collect::<Vec<_>>().join(",");
         let answers = if answers.is_empty() { "-".into() } else { answers };
         let end = self.end.map_or("-".into(), |n| n.to_string());
@@ -32,6 +37,16 @@ impl Line {
             "{rests} {sent} {outcome} {} {} {} {answers} {end}{bound}{attempts}",
             self.status, self.total, self.open
         )
+    }
+}
+
+impl Says for Line {
+    fn text(&self) -> String {
+        Line::text(self)
+    }
+
+    fn sent(&mut self) -> &mut Vec<u8> {
+        &mut self.sent
     }
 }
 

@@ -31,12 +31,13 @@ pub fn lent(n: u16) -> usize {
 
 impl Fed for Route {
     const ENOUGH: u16 = MOST_LENT;
+    type Call = Delivery;
 
     fn flags(&mut self) -> &mut u8 {
         &mut self.flags
     }
 
-    fn deliveries(&mut self) -> &mut Vec<Delivery> {
+    fn calls(&mut self) -> &mut Vec<Delivery> {
         &mut self.deliveries
     }
 

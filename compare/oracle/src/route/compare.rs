@@ -20,6 +20,8 @@ fn excess(route: &Route, line: &Line) -> isize {
 }
 
 impl Held for Route {
+    type Line = Line;
+
     fn model(&self) -> Line {
         model::answer(self)
     }

@@ -27,7 +27,7 @@ impl Cut for Route {
     }
 
     fn coarse(&self, all: &mut Smaller<Route>) {
-        all.coarse_deliveries(&self.deliveries);
+        all.coarse_calls(&self.deliveries);
         fewer(&self.proxies).into_iter().for_each(|list| all.add(|c| c.proxies = list));
         texts(self, all, |text, _| shorter(text));
     }
@@ -40,7 +40,7 @@ impl Cut for Route {
             [CREDENTIALS, OPTIMISTIC, PORT].into_iter().for_each(|flag| all.add(|c| c.proxies[i].flags &= !flag));
             all.add(|c| c.proxies[i].port = 443);
         }
-        all.fine_deliveries(&self.deliveries);
+        all.fine_calls(&self.deliveries);
         texts(self, all, plainer);
     }
 }

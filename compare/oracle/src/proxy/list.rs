@@ -1,0 +1,515 @@
+//! The kept list of the proxy's end: every number, status and boundary of request F-3.
+use super::build::*;
+use super::case::Case;
+use super::compare::Figures;
+use super::{expect, generate, model};
+use crate::case::*;
+use crate::hold::Says;
+use crate::list::{Kept, save};
+
+// Random cases fill the list up to so many, as far as they are small.
+const CASES: usize = 1060;
+const SMALL: usize = 300;
+
+type List = Kept<Case>;
+
+// One short connect and one short v4 request that hand out a destination.
+fn good5() -> Vec<u8> {
+    [greeting(&[0]), connect([5, 1, 0], &FOUR)].concat()
+}
+
+fn good4() -> Vec<u8> {
+    request4(1, [192, 0, 2, 7], b"", None)
+}
+
+// Whole, one byte short of whole, and byte by byte with more behind.
+fn ways(list: &mut List, end: &Case, stream: &[u8]) {
+    list.add(end.clone().piece(stream).piece(b"late").answer(0).answer(90));
+    list.add(end.clone().piece(&stream[..stream.len() - 1]));
+    list.add(end.clone().each_byte(stream).piece(b"SDF").flag(END));
+}
+
+// Whole with more behind it.
+fn once(list: &mut List, end: &Case, stream: &[u8]) {
+    list.add(end.clone().piece(&[stream, b"SDF"].concat()).flag(END));
+}
+
+// ---- whole sessions
+
+// Nothing yet; the requests at once, one by one and byte by byte, with and without more behind; answered and not.
+fn whole(list: &mut List) {
+    for session in sessions() {
+        let (end, success, stream) = (session.end.clone(), session.success, session.stream());
+        list.add(end.clone());
+        list.add(end.clone().flag(END));
+        list.add(end.clone().piece(&stream));
+        list.add(end.clone().piece(&stream).answer(success).flag(END));
+        list.add(end.clone().piece(&[&stream, &b"SDF"[..]].concat()).answer(success).piece(b"more").flag(END));
+        list.add(end.clone().piece(&[&stream[..], &stream].concat()).answer(success).piece(&stream));
+        list.add(end.clone().pieces(&session.requests).answer(success).flag(END));
+        list.add(end.clone().each_byte(&stream).answer(success).each_byte(b"SDF"));
+        list.add(end.each_byte(&[&stream, &b"SD"[..]].concat()).answer_lent(262, success, 6, BOUND, 0));
+    }
+}
+
+// In two at every byte.
+fn cuts(list: &mut List) {
+    for session in [2, 4, 5, 7, 9].map(|n| sessions().remove(n)) {
+        let stream = [&session.stream()[..], b"S"].concat();
+        for n in 1..stream.len() {
+            let (before, later) = stream.split_at(n);
+            list.add(session.end.clone().piece(before).piece(later).answer(session.success));
+        }
+    }
+}
+
+// 9 behind every byte.
+fn ends(list: &mut List) {
+    for session in [2, 4, 9].map(|n| sessions().remove(n)) {
+        let stream = session.stream();
+        (1..stream.len()).for_each(|n| list.add(session.end.clone().piece(&stream[..n]).flag(END)));
+    }
+}
+
+// ---- set-up
+
+// 5 with credentials alone; every call is then 16, and every piece that is lent enough is rest.
+fn set_ups(list: &mut List) {
+    for (user, password) in [(256, 0), (0, 256), (256, 256), (255, 256), (256, 255), (1000, 1), (65535, 0)] {
+        let end = set(&vec![b'u'; user], &vec![b'p'; password]);
+        let late = |case: Case| case.piece_lent(262, &good5()).piece_lent(261, b"lost").piece(b"").answer(0);
+        list.add(late(end.clone()).flag(END));
+        if user + password < 1000 {
+            list.add(end.clone());
+            list.add(end.clone().flag(END));
+            list.add(end.clone().answer_lent(0, 90, 6, BOUND, 1).each_byte(&good4()));
+            let mut without = end;
+            without.flags = 0;
+            list.add(without.clone().piece(&good5()).answer(0));
+            list.add(without.piece(&good4()).answer(90).flag(END));
+        }
+    }
+    // flags that are none
+    for flags in [2, 4, 128, 238] {
+        list.add(bare().flag(flags).piece(&good5()).answer(0));
+        list.add(set(b"u", b"pw").flag(flags).piece(&greeting(&[2])).flag(END));
+    }
+}
+
+// ---- v5
+
+fn first_bytes(list: &mut List) {
+    for first in [0, 1, 3, 6, 255] {
+        list.add(bare().piece(&[first]));
+        once(list, &bare(), &[first]);
+        list.add(set(b"", b"").piece(&[first, 1, 2]).piece(b"late").answer(0));
+    }
+}
+
+// `02` with credentials, else `00`: anywhere among the methods, or not; decided when the greeting is whole.
+fn greetings(list: &mut List) {
+    for end in [bare(), set(b"u", b"pw")] {
+        let right = if end.has(CREDENTIALS) { 2 } else { 0 };
+        list.add(end.clone().piece(&[5, 0]).flag(END));
+        once(list, &end, &[5, 0]);
+        list.add(end.clone().each_byte(&[5, 0, 0, 2]));
+        for methods in [&[right][..], &[2 - right], &[right, 2 - right]] {
+            ways(list, &end, &greeting(methods));
+        }
+        for methods in [&[2 - right][..], &[1], &[0xFF], &[3], &[1, 0xFF], &[2, 0], &[0, 2], &[right, right]] {
+            list.add(end.clone().piece(&[&greeting(methods)[..], &connect([5, 1, 0], &FOUR)].concat()).answer(0));
+        }
+        for n in [2, 254, 255] {
+            let others = vec![0x80; n];
+            once(list, &end, &greeting(&others));
+            for place in [0, n / 2, n - 1] {
+                let mut methods = others.clone();
+                methods[place] = right;
+                let stream = greeting(&methods);
+                list.add(end.clone().piece(&stream[..n + 1]).piece(&stream[n + 1..]).flag(END));
+            }
+        }
+    }
+}
+
+// Lengths from none to 255; wrong ones are told once whole.
+fn logins(list: &mut List) {
+    let hello = greeting(&[2]);
+    let after = connect([5, 1, 0], &named(b"x"));
+    for (user, password) in [(0, 0), (0, 1), (1, 0), (1, 1), (255, 0), (0, 255), (255, 255)] {
+        let (user, password) = (vec![b'u'; user], vec![b'p'; password]);
+        let end = set(&user, &password);
+        let login = credentials(&user, &password);
+        list.add(end.clone().piece(&[&hello[..], &login, &after].concat()).answer(0));
+        list.add(end.clone().pieces(&[hello.clone(), login.clone(), after.clone()]).answer(5));
+        list.add(end.clone().piece(&[&hello[..], &login[..login.len() - 1]].concat()).flag(END));
+        let more = |text: &[u8]| [text, b"x"].concat();
+        let mut wrong = vec![credentials(&password, &user), credentials(b"", b""), credentials(b"x", b"y")];
+        if user.len() < 255 {
+            wrong.push(credentials(&more(&user), &password));
+        }
+        if password.len() < 255 {
+            wrong.push(credentials(&user, &more(&password)));
+        }
+        if !user.is_empty() {
+            wrong.push(credentials(&user[1..], &password));
+            wrong.push(credentials(&[&user[1..], b"x"].concat(), &password));
+        }
+        if !password.is_empty() {
+            wrong.push(credentials(&user, &password[1..]));
+            wrong.push(credentials(&user, &[b"x", &password[1..]].concat()));
+        }
+        for login in wrong {
+            list.add(end.clone().piece(&hello).piece(&[&login[..], &after].concat()).piece(b"late").answer(0));
+        }
+    }
+    let end = set(b"user", b"pass");
+    for login in [credentials(b"User", b"pass"), credentials(b"user", b"pasS"), credentials(b"use", b"rpass")] {
+        ways(list, &end, &[&hello[..], &login].concat());
+    }
+    for version in [0, 2, 4, 5, 255] {
+        once(list, &end, &[&hello[..], &[version]].concat());
+        list.add(end.clone().piece(&hello).piece(&[version, 4]).flag(END));
+    }
+    // any bytes
+    let odd = [0, 255, 1, 128];
+    list.add(set(&odd, &[0]).piece(&[&hello[..], &credentials(&odd, &[0]), &after].concat()).answer(0));
+    // none are read where none are set
+    once(list, &bare(), &[&greeting(&[0, 2])[..], &credentials(b"u", b"pw"), &after].concat());
+}
+
+// Version, then the reserved byte whatever the command, then the type, then the command once all is there.
+fn connects(list: &mut List) {
+    for (end, hello) in
+        [(bare(), greeting(&[0])), (set(b"u", b"pw"), [greeting(&[2]), credentials(b"u", b"pw")].concat())]
+    {
+        let at = |stream: &[u8]| [&hello[..], stream].concat();
+        for version in [0, 1, 4, 6, 255] {
+            once(list, &end, &at(&[version]));
+        }
+        list.add(end.clone().piece(&hello).piece(&connect([4, 1, 0], &FOUR)).flag(END));
+        for command in [1, 2] {
+            for reserved in [1, 255] {
+                once(list, &end, &at(&[5, command, reserved]));
+            }
+        }
+        for (command, kind) in [(1, 0), (1, 2), (1, 5), (1, 6), (1, 128), (1, 255), (0, 0), (2, 2), (255, 255)] {
+            once(list, &end, &at(&[5, command, 0, kind]));
+        }
+        list.add(end.clone().piece(&hello).piece(&[5, 1, 1]).answer(0).piece(b"late"));
+        list.add(end.clone().piece(&hello).piece(&[5, 1, 0, 2]).answer(0).piece(b"late").flag(END));
+        list.add(end.clone().each_byte(&at(&connect([5, 1, 0], &[9, 1, 2, 3, 4]))));
+        for command in [0, 2, 3, 255] {
+            for address in [&FOUR[..], &SIX, &named(b"x")] {
+                once(list, &end, &at(&connect([5, command, 0], address)));
+            }
+        }
+        ways(list, &end, &at(&connect([5, 2, 0], &named(b"ab"))));
+    }
+}
+
+// A name of 1 to 255 of any bytes; addresses and ports at their edges.
+fn destinations5(list: &mut List) {
+    let at = |address: &[u8]| [&greeting(&[0])[..], &connect([5, 1, 0], address)].concat();
+    for command in [1, 2] {
+        once(list, &bare(), &[5, 1, 0, 5, command, 0, 3, 0]);
+    }
+    list.add(bare().each_byte(&at(&[3, 0, 0])));
+    for n in [1, 2, 127, 128, 254, 255] {
+        let name = vec![b'n'; n];
+        list.add(bare().piece(&at(&named(&name))).answer(0));
+        list.add(bare().piece(&at(&named(&name))[..n + 9]).flag(END));
+        list.add(at(&named(&name)).chunks(100).fold(bare(), |case, piece| case.piece(piece)).answer(8));
+    }
+    list.add(bare().each_byte(&at(&named(&[b'n'; 255]))).answer(0));
+    let every: Vec<u8> = (1..=255).collect();
+    for name in [&[0][..], &[0, 0], &[255], b"[", b"192.0.2.7", b"[::1]", b"a b", "\u{e4}".as_bytes(), &[0xC3], &every]
+    {
+        list.add(bare().piece(&at(&named(name))).answer(0).flag(END));
+    }
+    for last in [0, 1, 255] {
+        list.add(bare().piece(&at(&[1, 0, 0, 0, last])).answer(0));
+        list.add(bare().piece(&at(&[&[4], &[last; 16][..]].concat())).answer(0));
+    }
+    list.add(bare().piece(&at(&[1, 255, 255, 255, 255])));
+    for port in [[0, 0], [0, 1], [0, 255], [1, 0], [255, 255]] {
+        let mut stream = at(&FOUR);
+        stream.splice(11.., port);
+        list.add(bare().piece(&stream).answer(0));
+    }
+}
+
+// ---- v4
+
+fn commands4(list: &mut List) {
+    let requests = |command: u8| {
+        [
+            request4(command, [192, 0, 2, 7], b"", None),
+            request4(command, [0, 0, 0, 0], b"me", None),
+            request4(command, [0, 0, 0, 7], b"", Some(b"x.example")),
+        ]
+    };
+    for command in [0, 2, 3, 255] {
+        requests(command).iter().for_each(|request| once(list, &bare(), request));
+        once(list, &set(b"u", b"pw"), &requests(command)[0]);
+    }
+    ways(list, &bare(), &requests(2)[1]);
+    // 20 ahead of 15, also for credentials of no bytes
+    for command in [1, 2] {
+        requests(command).iter().for_each(|request| ways(list, &set(b"u", b"pw"), request));
+        once(list, &set(b"", b""), &requests(command)[0]);
+    }
+}
+
+fn user_ids(list: &mut List) {
+    for n in [0, 1, 2, 127, 254, 255] {
+        let id = vec![b'i'; n];
+        for (address, name) in [([10, 0, 0, 1], None), ([0, 0, 0, 9], Some(&b"nm"[..]))] {
+            list.add(bare().piece(&request4(1, address, &id, name)).answer(90));
+            list.add(bare().piece(&request4(1, address, &id, name)[..8 + n]).flag(END));
+        }
+    }
+    // 19 at the 256th, whatever the address, the command and the credentials
+    for n in [256, 257, 300] {
+        for (address, name) in [([10, 0, 0, 1], None), ([0, 0, 0, 9], Some(&b"nm"[..]))] {
+            let request = request4(1, address, &vec![b'i'; n], name);
+            list.add(bare().piece(&request));
+            list.add(set(b"u", b"pw").piece(&request[..8 + 256]).piece(b"late").flag(END));
+            list.add(bare().piece(&request[..8 + 255]).piece(&request[8 + 255..]).flag(END));
+        }
+    }
+    list.add(bare().each_byte(&request4(2, [10, 0, 0, 1], &[255; 256], None)));
+    list.add(bare().piece(&request4(1, [10, 0, 0, 1], &(1..=255).collect::<Vec<u8>>(), None)).answer(90));
+}
+
+fn names4(list: &mut List) {
+    let announced = [0, 0, 0, 255];
+    for n in [1, 2, 255, 256, 257, 1013, 1014] {
+        let request = request4(1, announced, b"", Some(&vec![b'n'; n]));
+        list.add(bare().piece(&request).answer(90));
+        list.add(bare().piece(&request[..request.len() - 1]).flag(END));
+        list.add(request.chunks(255).fold(bare(), |case, piece| case.piece(piece)).answer(91).piece(b"late"));
+    }
+    // with the longest user id
+    let longest = request4(1, announced, &[b'i'; 255], Some(&[b'n'; 1014]));
+    list.add(bare().piece(&longest).answer(90));
+    list.add(bare().each_byte(&longest).answer(90));
+    list.add(set(b"u", b"").piece(&longest).flag(END));
+    list.add(bare().piece(&request4(2, announced, &[b'i'; 255], Some(&[b'n'; 1014]))).flag(END));
+    // 19 at the 1,015th
+    for n in [1015, 1016, 1300] {
+        for id in [&b""[..], b"me"] {
+            let request = request4(1, announced, id, Some(&vec![b'n'; n]));
+            let at = 9 + id.len() + 1015;
+            list.add(bare().piece(&request).flag(END));
+            list.add(bare().piece(&request[..at - 1]).piece(&request[at - 1..]));
+            list.add(set(b"u", b"").piece(&request[..at]).answer(90));
+        }
+    }
+    // 19 at its `00`
+    for end in [bare(), set(b"u", b"pw")] {
+        for command in [1, 2] {
+            for id in [&b""[..], b"me"] {
+                ways(list, &end, &request4(command, announced, id, Some(b"")));
+            }
+        }
+    }
+    for name in [&[255][..], b"192.0.2.7", b"[", b"a b", &(1..=255).collect::<Vec<u8>>()] {
+        list.add(bare().piece(&request4(1, announced, b"", Some(name))).answer(90).flag(END));
+    }
+}
+
+// Which addresses announce a name; ports.
+fn addresses4(list: &mut List) {
+    for address in [
+        [0, 0, 0, 0],
+        [0, 0, 0, 1],
+        [0, 0, 0, 128],
+        [0, 0, 0, 255],
+        [0, 0, 1, 0],
+        [0, 0, 1, 1],
+        [0, 1, 0, 1],
+        [1, 0, 0, 1],
+        [255, 255, 255, 255],
+    ] {
+        list.add(bare().piece(&request4(1, address, b"", Some(b"nm"))).answer(90));
+        list.add(bare().piece(&request4(1, address, b"", None)).flag(END));
+    }
+    for port in [[0, 0], [0, 1], [0, 255], [1, 0], [255, 255]] {
+        for mut request in [good4(), request4(1, [0, 0, 0, 1], b"", Some(b"nm"))] {
+            request.splice(2..4, port);
+            list.add(bare().piece(&request).answer(90));
+        }
+    }
+}
+
+// ---- the caller's answer
+
+fn statuses(list: &mut List) {
+    let all = (0..=9).chain(89..=94).chain([255]);
+    for status in all {
+        for (stream, behind) in [(good5(), b"five"), (good4(), b"four")] {
+            list.add(bare().piece(&stream).answer(status));
+            let six = bare().piece(&stream).answer_lent(262, status, 6, BOUND, 443);
+            list.add(six.piece(behind).answer(0).flag(END));
+        }
+    }
+}
+
+fn bounds(list: &mut List) {
+    let mapped = [0, 0, 0, 0, 0, 0, 0, 0, 0, 0, 255, 255, 192, 0, 2, 7];
+    for (stream, success) in [(good5(), 0), (good4(), 90)] {
+        for family in [4, 6] {
+            for address in [[0; 16], [255; 16], BOUND, mapped] {
+                list.add(bare().piece(&stream).answer_lent(2048, success, family, address, 80));
+            }
+            for port in [0, 1, 255, 256, 65535] {
+                list.add(bare().piece(&stream).answer_lent(2048, success, family, BOUND, port));
+            }
+        }
+    }
+    // of the other destinations, with the replies before
+    for session in sessions() {
+        let (status, asked) = (session.success + 2, session.end.clone().piece(&session.stream()));
+        list.add(asked.answer_lent(2048, status, 6, BOUND, 1).piece(b"late").flag(END));
+    }
+}
+
+// ---- output and turns
+
+// 1 below 262 bytes, for deliveries and answers; above 2,048 is as much as that. Nothing is used then, and no rest is
+// told.
+fn outputs(list: &mut List) {
+    let lents = [0, 261, 262, 65535, 1, 263, 2047, 2048, 2049];
+    for (stream, success, n) in [(good5(), 0, 9), (good4(), 90, 4)] {
+        let (before, later) = stream.split_at(4);
+        for lent in lents.into_iter().take(n) {
+            let tail = [&stream[..], b"SDF"].concat();
+            list.add(bare().piece_lent(lent, &tail).flag(END));
+            list.add(bare().piece_lent(lent, &tail).piece_lent(262, &tail).answer(success));
+            list.add(bare().piece(before).piece_lent(lent, later).answer(success).flag(END));
+            let answered = bare().piece(&stream).answer_lent(lent, success, 4, BOUND, 8080);
+            list.add(answered.clone().flag(END));
+            list.add(answered.answer_lent(262, 1, 6, BOUND, 8080).piece_lent(lent, b"late"));
+        }
+        list.add(bare().piece_lent(261, b"").piece_lent(262, b"").piece_lent(0, b"").flag(END));
+        list.add(bare().piece_lent(261, b"\x07").piece_lent(0, b"\x07").piece(&stream).flag(END));
+    }
+}
+
+// 16 ahead of 1; nothing changes.
+fn turns(list: &mut List) {
+    for session in [0, 2, 4, 5, 7, 9].map(|n| sessions().remove(n)) {
+        let (end, success, stream) = (session.end.clone(), session.success, session.stream());
+        // an answer that is not awaited
+        list.add(end.clone().answer(success).answer_lent(0, success, 6, BOUND, 1).piece(&stream).answer(success));
+        let (before, later) = stream.split_at(stream.len() / 2);
+        list.add(end.clone().piece(before).answer(success).piece(later).answer(success));
+        list.add(end.clone().piece(&stream[..1]).answer_lent(261, success, 4, BOUND, 1).flag(END));
+        // a delivery, or the end of stream, while one is
+        let asked = end.clone().piece(&stream);
+        let late = |case: Case| case.piece(b"ab").piece_lent(262, b"").piece_lent(261, b"lost").piece_lent(0, b"");
+        list.add(late(asked.clone()).flag(END));
+        list.add(late(asked.clone()).answer_lent(261, success, 4, BOUND, 1).answer(success).piece(b"cd"));
+        // any call to an end that is open or failed
+        let again = |case: Case| late(case).answer(success).answer_lent(0, 1, 6, BOUND, 1).flag(END);
+        list.add(again(asked.clone().answer(success)));
+        list.add(again(asked.answer(2)));
+        list.add(again(end.clone().piece(&[stream[0], 0])));
+        list.add(again(end.piece(&[7])));
+    }
+    list.add(again20(set(b"u", b"pw")));
+}
+
+fn again20(end: Case) -> Case {
+    let wrong = [greeting(&[2]), credentials(b"u", b"px")].concat();
+    end.piece(&wrong).piece(&connect([5, 1, 0], &FOUR)).answer(0).piece_lent(0, b"lost").flag(END)
+}
+
+// An empty piece anywhere in turn.
+fn empties(list: &mut List) {
+    for session in [3, 9].map(|n| sessions().remove(n)) {
+        let stream = session.stream();
+        let mut all = session.end.clone().piece(b"");
+        for b in &stream {
+            all = all.piece(&[*b]).piece_lent(262, b"").piece_lent(261, b"");
+        }
+        list.add(all.clone().flag(END));
+        list.add(all.answer(session.success).piece(b"").flag(END));
+        list.add(session.end.clone().piece(b"").flag(END));
+    }
+}
+
+// Much behind the last request, and behind a failure.
+fn tails(list: &mut List) {
+    let behind = vec![0xAB; 3000];
+    for (end, stream) in [
+        (bare(), good5()),
+        (bare(), good4()),
+        (set(b"u", b"pw"), good4()),
+        (bare(), greeting(&[2])),
+        (bare(), vec![5, 0]),
+        (bare(), vec![9]),
+        (bare(), [&greeting(&[0])[..], &[5, 1, 0, 0]].concat()),
+    ] {
+        list.add(end.clone().piece(&[&stream[..], &behind].concat()).answer(90).piece(&behind[..9]));
+        list.add(end.piece(&stream).piece(&behind).flag(END));
+    }
+    list.add(bare().piece(&[&good5()[..], &vec![7; 65535 - good5().len()]].concat()).answer(0));
+}
+
+// ---- the list
+
+fn cases() -> Vec<Case> {
+    let mut list = List::new();
+    let parts = [
+        whole,
+        cuts,
+        ends,
+        set_ups,
+        first_bytes,
+        greetings,
+        logins,
+        connects,
+        destinations5,
+        commands4,
+        user_ids,
+        names4,
+        addresses4,
+        statuses,
+        bounds,
+        outputs,
+        turns,
+        empties,
+        tails,
+    ];
+    for part in parts {
+        part(&mut list);
+    }
+    let fill = CASES.saturating_sub(list.cases.len());
+    let small = |case: &Case| case.bytes().len() < SMALL;
+    (0..).map(|n| generate::case(1, n)).filter(small).take(fill).for_each(|case| list.add(case));
+    list.cases
+}
+
+// Writes the list and its answers, and says what it holds; fails where the original and the model differ.
+pub fn write(dir: &str) -> Result<(), String> {
+    let (mut stdin, mut stdout) = (vec![], String::new());
+    let mut figures = Figures::default();
+    let cases = cases();
+    for case in &cases {
+        let line = expect::expect(case)
+            .map_err(|told| format!("{}: {} but {told}", hex(&case.bytes()), model::answer(case).text()))?;
+        case.write(&mut stdin);
+        stdout += &(line.text() + "\n");
+        figures.add(case);
+    }
+    // a case that the program refuses, and what it must not reach
+    stdout += &format!("bad case at {}\n", stdin.len());
+    bare().piece(&good5()).answer_lent(262, 0, 5, BOUND, 80).write(&mut stdin);
+    bare().write(&mut stdin);
+    save(dir, &stdin, &stdout)?;
+    println!("{} cases, {} bytes, answers {} bytes", cases.len(), stdin.len(), stdout.len());
+    println!("{}", figures.text());
+    Ok(())
+}
