@@ -1,14 +1,14 @@
 // What follows a whole field of a client's requests: what the end says, and which field it then awaits, or how it stands.
 ghost use mathlib.Core.Path.{_≡_};
 ghost use mathlib.Core.List.{_++_};
-ghost use Prim.Native.Nat.{_≤_};
-ghost use lib.ListN.{drop};
-ghost use Rattle.protocol.specs.Opening.{announces};
-ghost use Rattle.serving.specs.End as end;
-ghost use Rattle.serving.specs.Side.{isKnown, portsOf, ipOf};
 ghost use Rattle.serving.specs.declared.Field.the-variants as Field;
 ghost use Rattle.serving.specs.declared.Says.the-variants as Says;
 ghost use Rattle.judging.specs.Due.{goesTo, failsWith, asksIn, behindGreeting, dueFirst, dueMethods, duePassword, dueHead, dueAddress, dueRequest, dueUserId, dueAt};
+use field_tests::announces_name;
+use field_tests::is_known;
+use field_tests::offers;
+use field_tests::ports_of;
+use field_tests::same;
 use protocol::SocksError;
 use protocol::Version;
 use reader::byte;
@@ -16,47 +16,11 @@ use serving::Field;
 use serving::Ports;
 use serving::Says;
 use serving::Stage;
-use wire::least;
 
 // What is said, and the stage behind it. In what follows `held` and then `piece` are the bytes of a whole field, and no others.
 pub struct Due {
     pub stage: Stage,
     pub says: Says,
-}
-
-// Whether a method stands among those of a greeting, behind their count.
-fn offers(method: u8, held: &[u8], piece: &[u8]) -> bool
-    ensures { λ r. ⌜ r ≡ end.offers method (drop 1 (now (held .entry) ++ now (piece .entry))) ⌝ }
-{
-    let end = held.len() + piece.len();
-    let mut i: usize = 1;
-    while i < end {
-        if byte(held, piece, i) == method {
-            return true;
-        }
-        i += 1;
-    }
-    false
-}
-
-// Whether the bytes behind the first ones are a text.
-fn same(held: &[u8], piece: &[u8], from: usize, text: &[u8]) -> bool
-    requires { ⌜ from ≤ 2 ⌝ }
-    ensures { λ r. ⌜ r ≡ end.same (drop from (now (held .entry) ++ now (piece .entry))) (now (text .entry)) ⌝ }
-{
-    let n = text.len();
-    let total = held.len() + piece.len();
-    if total - least(total, from) != n {
-        return false;
-    }
-    let mut i: usize = 0;
-    while i < n {
-        if byte(held, piece, from + i) != text[i] {
-            return false;
-        }
-        i += 1;
-    }
-    true
 }
 
 // Nothing is said, and another field awaited.
@@ -133,12 +97,6 @@ fn judge_password(right: bool, password: &[u8], held: &[u8], piece: &[u8]) -> Du
     fails(SocksError::WrongCredentials, Says::Login(0x01))
 }
 
-fn is_known(kind: u8) -> bool
-    ensures { λ r. ⌜ r ≡ isKnown kind ⌝ }
-{
-    kind == 0x01 || (kind == 0x04 || kind == 0x03)
-}
-
 fn judge_head(held: &[u8], piece: &[u8]) -> Due
     ensures { λ r. ⌜ r ≡ dueHead (now (held .entry) ++ now (piece .entry)) ⌝ }
 {
@@ -156,26 +114,6 @@ fn judge_address(command: u8) -> Due
         return asks(Version::V5);
     }
     fails(SocksError::Command(7), Says::Reply5(7))
-}
-
-// CD, DSTPORT and DSTIP.
-fn ports_of(held: &[u8], piece: &[u8]) -> Ports
-    ensures { λ r. ⌜ r ≡ portsOf (now (held .entry) ++ now (piece .entry)) ⌝ }
-{
-    Ports {
-        command: byte(held, piece, 0),
-        port: (byte(held, piece, 1) as u16) * 256 + byte(held, piece, 2) as u16,
-        first: byte(held, piece, 3),
-        second: byte(held, piece, 4),
-        third: byte(held, piece, 5),
-        fourth: byte(held, piece, 6),
-    }
-}
-
-fn announces_name(ports: Ports) -> bool
-    ensures { λ r. ⌜ r ≡ announces (ipOf ports) ⌝ }
-{
-    ports.first == 0 && (ports.second == 0 && (ports.third == 0 && 0 < ports.fourth))
 }
 
 // A whole v4 request: credentials are judged ahead of the command.

@@ -1,8 +1,8 @@
 use mathlib.Core.List.{_++_}
-use Rattle.judging.proofs.Ways.{ports-read}
+use Rattle.field_tests.proofs.Tests.{ports-read}
 use borrow.Author.Needs.{needs}
-use Rattle.judging.proofs.ports_of.Statement.{statement}
-use Rattle.judging.proofs.ports_of.Tie as tie
+use Rattle.field_tests.proofs.ports_of.Statement.{statement}
+use Rattle.field_tests.proofs.ports_of.Tie as tie
 
 byte-requires : tie.Need-byte-requires
 byte-requires c κs = search needs

@@ -3,10 +3,10 @@ use mathlib.Core.List.{_++_}
 use Prim.Native.Nat.{_+_, _-_}
 use lib.ListN.{length, drop}
 use Rattle.serving.specs.End.{offers}
-use Rattle.judging.proofs.Loops.{offers-here, offers-on, offers-none}
+use Rattle.field_tests.proofs.Loops.{offers-here, offers-on, offers-none}
 use borrow.Author.Needs.{needs}
-use Rattle.judging.proofs.offers.Statement.{statement}
-use Rattle.judging.proofs.offers.Tie as tie
+use Rattle.field_tests.proofs.offers.Statement.{statement}
+use Rattle.field_tests.proofs.offers.Tie as tie
 
 abbrev Inv-loop : tie.InvT-loop
 Inv-loop method held piece end i₀ i = (end ≡ length held + length piece) × (offers method (drop i (held ++ piece)) ≡ offers method (drop 1 (held ++ piece)))

@@ -1,6 +1,6 @@
-use Rattle.judging.proofs.Ways.{other-first, other-second, other-third, by-fourth}
-use Rattle.judging.proofs.announces_name.Statement.{statement}
-use Rattle.judging.proofs.announces_name.Tie as tie
+use Rattle.field_tests.proofs.Tests.{other-first, other-second, other-third, by-fourth}
+use Rattle.field_tests.proofs.announces_name.Statement.{statement}
+use Rattle.field_tests.proofs.announces_name.Tie as tie
 
 returns : tie.Need-returns
 returns c = by-fourth (c .before .before .before .before .before .before .before .args .ports) (c .before .before .before .before .before .if1 .taken) (c .before .before .before .if2 .taken) (c .before .if3 .taken)

@@ -1,6 +1,6 @@
-use Rattle.judging.proofs.Ways.{known-first, known-second, known-third}
-use Rattle.judging.proofs.is_known.Statement.{statement}
-use Rattle.judging.proofs.is_known.Tie as tie
+use Rattle.field_tests.proofs.Tests.{known-first, known-second, known-third}
+use Rattle.field_tests.proofs.is_known.Statement.{statement}
+use Rattle.field_tests.proofs.is_known.Tie as tie
 
 returns : tie.Need-returns
 returns c = known-first (c .before .args .kind) (c .if1 .taken)

@@ -3,10 +3,10 @@ use mathlib.Core.List.{_++_}
 use Prim.Native.Nat.{_+_, _-_}
 use lib.ListN.{length, drop}
 use Rattle.serving.specs.End.{same}
-use Rattle.judging.proofs.Loops.{same-first, same-not, same-other, same-on, same-all}
+use Rattle.field_tests.proofs.Loops.{same-first, same-not, same-other, same-on, same-all}
 use borrow.Author.Needs.{needs}
-use Rattle.judging.proofs.same.Statement.{statement}
-use Rattle.judging.proofs.same.Tie as tie
+use Rattle.field_tests.proofs.same.Statement.{statement}
+use Rattle.field_tests.proofs.same.Tie as tie
 
 abbrev Inv-loop : tie.InvT-loop
 Inv-loop held piece from text n total i₀ i = (n ≡ length text) × (same (drop (from + i) (held ++ piece)) (drop i text) ≡ same (drop from (held ++ piece)) text)
