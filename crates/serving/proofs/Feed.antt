@@ -23,7 +23,7 @@ use Rattle.serving.specs.declared.Field.the-variants.{First, Methods, Us
 use Rattle.serving.specs.End.{Setup, Asked, asked, Standing, waits, asks, fails, End, has, chosen, methodReply, loginReply, ownReply5, ownReply4, offers, same, reads, connected, connecting, judged, signing, greeted, requested, machine, usedBy, used}
 use Rattle.serving.specs.Side as side
 use Rattle.serving.specs.Side.{EndTalk, EndSession, refuses, unlessOther5, targetOf, atAddress, isKnown, atHead, atPassword, atUser, atMethods, portsOf, ipOf, unlessOther4, atName, atUserId, atRequest, atFirst, talkAt, server, standingOf, readText, readName}
-use Rattle.serving.proofs.Worked.{Outcome, plain, fed}
+use Rattle.serving.specs.Worked.{Outcome, plain, fed}
 use Rattle.serving.proofs.Side.{TextLaw, text-law, server-lawful}
 use Rattle.talk.proofs.Feed.{feed-exact}
 use Rattle.talk.specs.Decision.{Decision, undecided, decided, good, bad}

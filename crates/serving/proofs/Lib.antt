@@ -1,4 +1,4 @@
-pub mod Worked
+pub mod Examples
 pub mod Seen
 pub mod Words
 pub mod Texts

@@ -2,3 +2,4 @@ pub mod Words
 pub mod Reads
 pub mod End
 pub mod Side
+pub mod Worked

@@ -1,6 +1,6 @@
 -- F-3, worked: what the end has sent, where it stands and how many bytes it has used, after given bytes. Both the plain machine and the side, fed, come to it.
 use Prim.Native.Nat.{ℕ}
-use mathlib.Core.Path.{_≡_, refl}
+use mathlib.Core.Path.{_≡_}
 use mathlib.Core.Bool.{true, false}
 use mathlib.Core.List.{List, [], _∷_, _++_}
 use lib.ListN.{replicate}
@@ -8,12 +8,10 @@ use Rattle.protocol.specs.declared.SocksError.the-variants.{Unsupported, Comman
 use Rattle.protocol.specs.declared.Version.the-variants.{V4, V5}
 use Rattle.protocol.specs.AddressReading.{ipv4, ipv6, domain}
 use Rattle.protocol.specs.Bound.{endpoint}
-use Rattle.protocol.specs.Opening.{announces}
 use Rattle.serving.specs.declared.Field.the-variants.{First}
 use Rattle.serving.specs.declared.Stage.the-variants.{Open, Failed}
-use Rattle.serving.specs.Reads.{greetingIn, loginIn, targetIn, connectIn, textIn, requestIn}
-use Rattle.serving.specs.End.{Setup, asked, Standing, waits, asks, fails, offers, same, connecting, signing, machine, used, reply5, reply4, stageAfter}
-use Rattle.serving.specs.Side.{reads, talkAt, server, standingOf}
+use Rattle.serving.specs.End.{Setup, asked, Standing, waits, asks, fails, machine, used, reply5, reply4, stageAfter}
+use Rattle.serving.specs.Side.{talkAt, server, standingOf}
 use Rattle.talk.specs.Talk.{feed, reached}
 
 pub record Outcome : Type 0 where
@@ -124,48 +122,3 @@ pub record Worked : Type 0 where
   pub opens : (stageAfter V5 0 ≡ Open V5) × (stageAfter V4 90 ≡ Open V4)
   pub refuses : (stageAfter V5 8 ≡ Failed (Command 8)) × (stageAfter V4 93 ≡ Failed (Command 93))
   pub refusesStrange : (stageAfter V5 9 ≡ Failed (Command 1)) × (stageAfter V4 0 ≡ Failed (Command 91))
-
-pub worked : Worked
-unfolding machine connecting signing greetingIn loginIn connectIn targetIn requestIn textIn offers same used announces feed reads
-worked =
-    record {
-      noByte = (refl, refl);
-      version = (refl, refl);
-      countNone = (refl, refl);
-      countMost = (refl, refl);
-      countShort = (refl, refl);
-      chooses2 = (refl, refl);
-      chooses0 = (refl, refl);
-      notOffered2 = (refl, refl);
-      notOffered0 = (refl, refl);
-      loginBlank = (refl, refl);
-      loginRight = (refl, refl);
-      loginWrong = (refl, refl);
-      loginShort = (refl, refl);
-      loginVersion = (refl, refl);
-      connectVersion = (refl, refl);
-      reserved = (refl, refl);
-      unknownType = (refl, refl);
-      command5 = (refl, refl);
-      command5Short = (refl, refl);
-      command4 = (refl, refl);
-      secret4 = (refl, refl);
-      secret4Short = (refl, refl);
-      userMost = (refl, refl);
-      userOver = (refl, refl);
-      nameNone = (refl, refl);
-      name5 = (refl, refl);
-      nameNone4 = (refl, refl);
-      name4 = (refl, refl);
-      nameMost4 = (refl, refl);
-      nameOver4 = (refl, refl);
-      hands4 = (refl, refl);
-      hands6 = (refl, refl);
-      answers5 = refl;
-      answers4 = refl;
-      strange5 = refl;
-      strange4 = refl;
-      opens = (refl, refl);
-      refuses = (refl, refl);
-      refusesStrange = (refl, refl);
-    }
