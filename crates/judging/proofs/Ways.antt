@@ -1,22 +1,17 @@
 -- What the ways through the judging of a field come to.
-use Prim.Native.Nat.{ℕ, _+_, _*_}
+use Prim.Native.Nat.{ℕ}
 use mathlib.Core.Path.{_≡_, sym, ap, _∙_}
 use mathlib.Core.Bool.{Bool, true, false}
 use mathlib.Core.List.{List}
 use lib.ListN.{drop}
-use lib.Seq.{getD-drop}
-use lib.Dec.{eqb, ltb}
-use borrow.Author.Tests.{eq-eqb, ne-eqb}
 use Rattle.protocol.specs.declared.SocksError.the-variants.{Unsupported, Command, WrongCredentials}
-use Rattle.protocol.specs.Bytes.{byte, twoOf}
-use Rattle.protocol.specs.Opening.{announces}
+use Rattle.protocol.specs.Bytes.{byte}
 use Rattle.serving.specs.declared.Field.{Field}
 use Rattle.serving.specs.declared.Field.the-variants.{Head, Address}
-use Rattle.serving.specs.declared.Ports.{Ports}
 use Rattle.serving.specs.declared.Says.the-variants.{Method, Login, Reply5}
 use Rattle.serving.specs.declared.Stage.the-variants.{Awaiting}
 use Rattle.serving.specs.End.{chosen, offers, same}
-use Rattle.serving.specs.Side.{isKnown, portsOf, ipOf}
+use Rattle.serving.specs.Side.{isKnown}
 use Rattle.judging.specs.declared.Due.{Due}
 use Rattle.judging.specs.Due.{goesTo, failsWith, behindGreeting, dueMethods, duePassword, dueHead}
 

@@ -1,44 +1,36 @@
 -- F-3: both ends meet over the calls: by demand 3 and the promise of the proxy's end the tunnels are the plain machines, and those meet.
 use Prim.Native.Nat.{ℕ, _≤_}
-use native.Mathlib.Omega.{arith}
-use mathlib.Core.Path.{_≡_, refl, ap, sym, _∙_, subst}
-use mathlib.Core.Bool.{Bool, true, false, cond}
-use mathlib.Core.List.{List, [], _∷_, _++_}
+use mathlib.Core.Path.{_≡_, refl, ap, sym, _∙_}
+use mathlib.Core.Bool.{false, true≢false}
+use mathlib.Core.List.{List, [], _++_}
 use lib.ListN.{length, take, drop}
-use lib.Seq.{take-append-seam, drop-append-seam}
-use lib.Dec.{leb}
-use borrow.Author.Tests.{le-leb}
+use lib.Seq.{drop-append-seam}
 use Rattle.protocol.specs.declared.Answer.{Answer}
 use Rattle.protocol.specs.declared.Answer.the-variants.{Accepted, Refused}
-use Rattle.protocol.specs.declared.SocksError.the-variants.{ShortOutput, Settled}
 use Rattle.protocol.specs.declared.Version.{Version}
 use Rattle.protocol.specs.declared.Version.the-variants as version
-use Rattle.protocol.specs.Bound.{Endpoint, unbound, addressOf}
+use Rattle.protocol.specs.Bound.{Endpoint, addressOf}
 use Rattle.protocol.specs.Opening.{V5, V4, check5, check4, Opening, opening5, opening4, requests}
 use Rattle.protocol.specs.Machine as client
-use Rattle.serving.specs.declared.Stage.{Stage}
-use Rattle.serving.specs.declared.Stage.the-variants.{Awaiting, Asked, Open, Failed}
-use Rattle.serving.specs.End.{Setup, Standing, waits, asks, fails, asked, machine, replyTo, success}
-use Rattle.serving.specs.Side.{EndSession, standingOf}
-use Rattle.destinations.specs.declared.Target.{Target}
+use Rattle.serving.specs.declared.Stage.the-variants.{Asked}
+use Rattle.serving.specs.End as plain
+use Rattle.serving.specs.End.{Setup, Standing, waits, asks, fails, machine, replyTo, statusTo, success}
 use Rattle.destinations.specs.Last.{targetAs}
-use Rattle.serving_stages.specs.Answers.{answerAt}
-use Rattle.serving_stages.specs.Told.{outcomeAt, hasDestination}
+use Rattle.serving_stages.specs.declared.Outcome.{Outcome}
 use Rattle.session.specs.declared.Session.{Session}
 use Rattle.session.specs.declared.Prepared.{Prepared}
 use Rattle.session.specs.Calls.{preparedBy, prepare5, prepare4}
 use Rattle.socks.specs.Demand3.{tunnelOf, joinedOf, Demand3, Tunnelled}
 use Rattle.socks.proofs.Openings.{demand3-v5, demand3-v4}
 use Rattle.proxy_calls.specs.declared.Server.{Server}
-use Rattle.proxy_calls.specs.declared.SetUp.{SetUp}
-use Rattle.proxy_calls.specs.Server.{sideOf, askedFor, view, packed, atStage, destination}
-use Rattle.proxy_calls.specs.Calls.{refusal, tooLong, setUp, takes, deliver, receiver, answer}
+use Rattle.proxy_calls.specs.Server.{outcome}
 use Rattle.proxy.specs.Served as served
-use Rattle.proxy.specs.Served.{targetBy, Served}
+use Rattle.proxy.specs.Served.{outcomeBy, targetBy, Served}
 use Rattle.proxy.proofs.Tunnels.{serving}
-use Rattle.talk.specs.Talk.{done, failed, waiting, ended, onward, isOver}
-use Rattle.talk.specs.Tunnel.{Delivery, after}
-use Rattle.meeting.specs.Ends.{versionOf, wantedBy, Sendable, answerTo, allSent, allRequests, Arrived, Met}
+use Rattle.proxy.proofs.Turns.{isAsked}
+use Rattle.proxy.proofs.Answered.{asked-stage, answering, answer-opens, answer-keeps, answer-unsent}
+use Rattle.talk.specs.Tunnel.{Delivery}
+use Rattle.meeting.specs.Ends.{versionOf, Sendable, answerTo, allSent, allRequests, Arrived, Met}
 use Rattle.meeting.specs.Meet.{answered, Exchanged, Meeting, Meets, BothMeet}
 use Rattle.meeting.proofs.Begins.{begins-then}
 use Rattle.meeting.proofs.Replies.{first-sent}
@@ -46,74 +38,14 @@ use Rattle.meeting.proofs.Versions.{In, asks-in}
 use Rattle.meeting.proofs.Sendable.{sendable5, sendable4}
 use Rattle.meeting.proofs.Meet.{met}
 
--- ---- before the caller's answer no end is open
-
-abbrev Unopened : Stage → Type 0
-Unopened (Awaiting f) = Unit {0}
-Unopened (Asked v) = Unit {0}
-Unopened (Open v) = ⊥
-Unopened (Failed e) = Unit {0}
-
-packed-unopened : (s : Server) (m : EndSession) → Unopened (packed s m .stage)
-packed-unopened s (waiting f h) = tt
-packed-unopened s (ended (done x)) = tt
-packed-unopened s (ended (failed e)) = tt
-
-delivered-unopened : (s : Server) (piece out : List ℕ) → Unopened (s .stage) → Unopened (deliver s piece out .session .stage)
-unfolding deliver
-delivered-unopened s piece out u = go (isOver (view s)) (leb 262 (length out))
-  where
-    taken : (piece : List ℕ) → Unopened (takes s piece out .session .stage)
-    taken [] = u
-    taken (b ∷ bs) = packed-unopened s (onward (sideOf s) (view s) (b ∷ bs) .session)
-
-    go : (a b : Bool) → Unopened (cond a (refusal Settled s out) (cond b (takes s piece out) (refusal ShortOutput s out)) .session .stage)
-    go true b = u
-    go false true = taken piece
-    go false false = u
-
-after-unopened : (ds : List Delivery) (s : Server) → Unopened (s .stage) → Unopened (after receiver s ds .stage)
-unfolding after
-after-unopened [] s u = u
-after-unopened (d ∷ ds) s u = after-unopened ds (deliver s (d .piece) (d .output) .session) (delivered-unopened s (d .piece) (d .output) u)
-
-set-unopened : (authenticates : Bool) (user password : List ℕ) → Unopened (setUp authenticates user password .server .stage)
-unfolding setUp
-set-unopened authenticates user password = go (tooLong authenticates user password) _ _ tt tt
-  where
-    go : (b : Bool) (r q : SetUp) → Unopened (r .server .stage) → Unopened (q .server .stage) → Unopened (cond b r q .server .stage)
-    go true r q h k = h
-    go false r q h k = k
-
--- ---- the caller's answer of success
-
--- sent just where it is asked for, in the version that is asked in
-reply-at : (s : Server) (t : Stage) (v : Version) (x : Endpoint) (out : List ℕ) → Unopened t → In v (standingOf (view (atStage t s))) → 262 ≤ length out
-    → take (answerAt t (success v) x out .said .sent) (answerAt t (success v) x out .output) ≡ answerTo (standingOf (view (atStage t s))) x
-reply-at s (Awaiting f) v x out u i l = refl
-reply-at s (Asked w) v x out u i l = rw (le-leb 262 (length out) l, i) (take-append-seam (replyTo v (success v) x) (drop (length (replyTo v (success v) x)) out))
-reply-at s (Open w) v x out u i l = absurd u
-reply-at s (Failed e) v x out u i l = refl
-
-asked-at : (s : Server) (t : Stage) (v : Version) (z : Endpoint) → Unopened t → standingOf (view (atStage t s)) ≡ asks (asked v z) → t ≡ Asked v
-asked-at s (Awaiting f) v z u e = let w : _≡_ {A = ℕ} 0 1 = cc in absurd (omega arith)
-asked-at s (Asked w) v z u e = ap (λ (k : Standing). Asked (versionIn k)) e
-  where
-    versionIn : Standing → Version
-    versionIn waits = v
-    versionIn (asks a) = a .version
-    versionIn (fails n) = v
-asked-at s (Open w) v z u e = absurd u
-asked-at s (Failed n) v z u e = let w : _≡_ {A = ℕ} 0 1 = cc in absurd (omega arith)
-
--- the end is then open
-opens : (v : Version) (x : Endpoint) (out : List ℕ) → 262 ≤ length out → answerAt (Asked v) (success v) x out .said .stage ≡ Open v
-opens version.V4 x out l = rw (le-leb 262 (length out) l)
-opens version.V5 x out l = rw (le-leb 262 (length out) l)
+-- success is sent as it is
+succeeds : (v : Version) → statusTo v (success v) ≡ success v
+succeeds version.V4 = refl
+succeeds version.V5 = refl
 
 -- ---- the tunnels are the plain machines
 
-module _ (o : Opening) (s : Session) (sent : List ℕ) (ds : List Delivery) (d : Demand3 o s sent ds) (c : Setup) (e : Server) (es : List Delivery) (g : Served c e es) (x : Endpoint) (out tail tail′ : List ℕ) (l : 262 ≤ length out) (u : Unopened (served.tunnelOf e es .session .stage)) (k : Exchanged o s sent ds e es x out tail tail′) where
+module _ (o : Opening) (s : Session) (sent : List ℕ) (ds : List Delivery) (d : Demand3 o s sent ds) (c : Setup) (e : Server) (es : List Delivery) (g : Served c e es) (x : Endpoint) (out tail tail′ : List ℕ) (l : 262 ≤ length out) (k : Exchanged o s sent ds e es x out tail tail′) where
   from-client : served.joinedOf es ≡ client.machine o (joinedOf o ds) .sent ++ tail′
   from-client = k .to-end ∙ ap (λ (q : List ℕ). q ++ tail′) (d .sent-as)
 
@@ -121,12 +53,27 @@ module _ (o : Opening) (s : Session) (sent : List ℕ) (ds : List Delivery) (d :
   in-version : In (versionOf o) (machine c (served.joinedOf es) .standing)
   in-version = asks-in o c (served.joinedOf es) (begins-then (client.sends (take 1 (requests o)) []) (client.machine o (joinedOf o ds) .sent) (served.joinedOf es) (first-sent o (joinedOf o ds)) (tail′, from-client))
 
+  abbrev t : Server
+  t = served.tunnelOf e es .session
+
+  stage-of : (a : plain.Asked) → machine c (served.joinedOf es) .standing ≡ asks a → t .stage ≡ Asked (a .version)
+  stage-of a q = asked-stage t a (g .outcome-as ∙ ap outcomeBy q) (g .standing-as ∙ q)
+
+  asked-so : (a : plain.Asked) → a .version ≡ versionOf o → machine c (served.joinedOf es) .standing ≡ asks a
+      → take (answered o e es x out .sent) (answered o e es x out .output) ≡ replyTo (a .version) (success (a .version)) x
+  asked-so a i q = answering t (a .version) (stage-of a q) (success (versionOf o)) x out l .sends ∙ ap (λ (v : Version). replyTo (a .version) (success v) x) (sym i)
+
+  unanswered : {r : Outcome} → outcome t ≡ r → isAsked r ≡ false → take (answered o e es x out .sent) (answered o e es x out .output) ≡ []
+  unanswered q f = ap (λ (n : ℕ). take n (answered o e es x out .output)) (answer-unsent t (λ p. true≢false (sym (ap isAsked p) ∙ ap isAsked q ∙ f)) (success (versionOf o)) x out)
+
+  -- the answer is sent just where it is asked for, in the version that is asked in
+  replies : (z : Standing) → In (versionOf o) z → machine c (served.joinedOf es) .standing ≡ z → take (answered o e es x out .sent) (answered o e es x out .output) ≡ answerTo z x
+  replies waits i q = unanswered (g .outcome-as ∙ ap outcomeBy q) refl
+  replies (asks a) i q = asked-so a i q
+  replies (fails n) i q = unanswered (g .outcome-as ∙ ap outcomeBy q) refl
+
   replies-so : take (answered o e es x out .sent) (answered o e es x out .output) ≡ answerTo (machine c (served.joinedOf es) .standing) x
-  unfolding answer
-  replies-so =
-      let t = served.tunnelOf e es .session in
-      let i : In (versionOf o) (standingOf (view t)) = subst (In (versionOf o)) (sym (g .standing-as)) in-version in
-      reply-at t (t .stage) (versionOf o) x out u i l ∙ ap (λ (z : Standing). answerTo z x) (g .standing-as)
+  replies-so = replies (machine c (served.joinedOf es) .standing) in-version refl
 
   arrived : Arrived o c x (joinedOf o ds) (served.joinedOf es) tail tail′
   arrived =
@@ -137,21 +84,8 @@ module _ (o : Opening) (s : Session) (sent : List ℕ) (ds : List Delivery) (d :
       }
 
   module _ (m : Met o c x (joinedOf o ds) (served.joinedOf es)) where
-    asked-stage : served.tunnelOf e es .session .stage ≡ Asked (versionOf o)
-    asked-stage =
-        let t = served.tunnelOf e es .session in
-        asked-at t (t .stage) (versionOf o) (wantedBy o) u (g .standing-as ∙ m .asks-for)
-
-    open-stage : answered o e es x out .session .stage ≡ Open (versionOf o)
-    unfolding answer
-    open-stage = ap (λ (t : Stage). answerAt t (success (versionOf o)) x out .said .stage) asked-stage ∙ opens (versionOf o) x out l
-
-    -- the answer keeps the destination
-    same-destination : destination (answered o e es x out .session) ≡ destination (served.tunnelOf e es .session)
-    unfolding answer
-    same-destination =
-        let at : Stage → Target = λ t. targetAs (cond (hasDestination t) (askedFor (served.tunnelOf e es .session)) unbound) in
-        ap at open-stage ∙ sym (ap at asked-stage)
+    at : t .stage ≡ Asked (versionOf o)
+    at = stage-of _ (m .asks-for)
 
     client-rest : tunnelOf o s sent ds .rest ≡ tail
     client-rest =
@@ -168,8 +102,8 @@ module _ (o : Opening) (s : Session) (sent : List ℕ) (ds : List Delivery) (d :
     meeting =
         record {
           client-open = d .outcome-as ∙ m .opened;
-          end-open = ap outcomeAt open-stage;
-          same-destination = same-destination ∙ g .destination-as ∙ ap (λ (z : Standing). targetAs (targetBy z)) (m .asks-for);
+          end-open = answer-opens t (versionOf o) at (success (versionOf o)) x out l (succeeds (versionOf o));
+          same-destination = answer-keeps t (versionOf o) at (success (versionOf o)) x out l (succeeds (versionOf o)) ∙ g .destination-as ∙ ap (λ (z : Standing). targetAs (targetBy z)) (m .asks-for);
           same-bound = d .bound-as ∙ ap addressOf (m .bound);
           client-rest = client-rest;
           end-rest = end-rest;
@@ -181,9 +115,8 @@ meets : (p : Prepared) (o : Opening) → Tunnelled p o → (p .answer ≡ Accept
 meets p o r z first a b authenticates user password f n ds es yd x h out tail tail′ l k =
     let d = r first a b ds yd in
     let g = serving authenticates user password f es in
-    let u = after-unopened es (setUp authenticates user password .server) (set-unopened authenticates user password) in
-    let q = arrived o _ _ ds d _ _ es g x out tail tail′ l u k in
-    meeting o _ _ ds d _ _ es g x out tail tail′ l u k (met o _ x (z a) n h _ _ tail tail′ q)
+    let q = arrived o _ _ ds d _ _ es g x out tail tail′ l k in
+    meeting o _ _ ds d _ _ es g x out tail tail′ l k (met o _ x (z a) n h _ _ tail tail′ q)
 
 accepted : (x : Answer) (o : Opening) → preparedBy x o .answer ≡ Accepted → x ≡ Accepted
 accepted Accepted o e = refl

@@ -6,7 +6,6 @@ use mathlib.Core.List.{List}
 use lib.ListN.{length, take}
 use lib.Seq.{take-append-seam}
 use borrow.Author.Tests.{le-leb, eq-eqb}
-use Rattle.protocol.specs.declared.Answer.the-variants.{Accepted}
 use Rattle.protocol.specs.declared.SocksError.the-variants.{Command}
 use Rattle.protocol.specs.declared.Version.{Version}
 use Rattle.protocol.specs.Bound.{Endpoint, unbound}
@@ -23,6 +22,7 @@ use Rattle.serving_stages.specs.Answers.{sends, answerAt}
 use Rattle.proxy_calls.specs.declared.Server.{Server}
 use Rattle.proxy_calls.specs.Server.{askedFor, heldBytes, view, outcome as told, destination}
 use Rattle.proxy_calls.specs.Calls.{Call, answerBy, answer}
+use Rattle.proxy.specs.Turns.{Answering}
 use Rattle.proxy.proofs.Turns.{isAsked}
 
 -- an end that is asked, and of which it is known what is asked for, is so in that version
@@ -42,18 +42,16 @@ asked-stage s x q w = go (s .stage) q w
 
 module _ (s : Server) (v : Version) (q : s .stage ≡ Asked v) (status : ℕ) (x : Endpoint) (out : List ℕ) (h : 262 ≤ length out) where
   -- in turn and with room
-  pub answer-is : answer s status x out ≡ answerBy s (sends (replyTo v status x) (stageAfter v status) out)
+  answer-is : answer s status x out ≡ answerBy s (sends (replyTo v status x) (stageAfter v status) out)
   unfolding answer
   answer-is = ap (λ (t : Stage). answerBy s (answerAt t status x out)) q ∙ rw (le-leb 262 (length out) h)
 
-  pub answer-accepted : answer s status x out .answer ≡ Accepted
-  answer-accepted = ap (λ (c : Call). c .answer) answer-is
-
-  pub answer-sent : take (answer s status x out .sent) (answer s status x out .output) ≡ replyTo v status x
-  answer-sent = ap (λ (c : Call). take (c .sent) (c .output)) answer-is ∙ take-append-seam (replyTo v status x) _
-
-  pub answer-stage : answer s status x out .session .stage ≡ stageAfter v status
-  answer-stage = ap (λ (c : Call). c .session .stage) answer-is
+  pub answering : Answering s v status x out
+  answering =
+      record {
+        sends = ap (λ (c : Call). take (c .sent) (c .output)) answer-is ∙ take-append-seam (replyTo v status x) _;
+        leaves = ap (λ (c : Call). c .session) answer-is;
+      }
 
   -- of success, the end is open and the destination stays
   module _ (z : statusTo v status ≡ success v) where
@@ -61,11 +59,11 @@ module _ (s : Server) (v : Version) (q : s .stage ≡ Asked v) (status : ℕ) (x
     opens = ap (λ (b : Bool). cond b (Open v) (Failed (Command (statusTo v status)))) (eq-eqb (statusTo v status) (success v) z)
 
     pub answer-opens : told (answer s status x out .session) ≡ outcome.Open
-    answer-opens = ap outcomeAt (answer-stage ∙ opens)
+    answer-opens = ap told (answering .leaves) ∙ ap outcomeAt opens
 
     pub answer-keeps : destination (answer s status x out .session) ≡ destination s
     answer-keeps =
-        ap (λ (c : Call). destination (c .session)) answer-is
+        ap destination (answering .leaves)
         ∙ ap (λ (t : Stage). targetAs (cond (hasDestination t) (askedFor s) unbound)) opens
         ∙ ap (λ (t : Stage). targetAs (cond (hasDestination t) (askedFor s) unbound)) (sym q)
 

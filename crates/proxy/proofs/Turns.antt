@@ -164,6 +164,16 @@ module _ (s : Server) (status : ℕ) (x : Endpoint) (out : List ℕ) where
   unfolding answer
   answer-untouched = at-untouched (s .stage)
 
+end-fails : (s : Server) → told s ≡ outcome.Waiting → told (end s .session) ≡ outcome.Failed UnexpectedEof
+unfolding end
+end-fails s q = go (s .stage) refl q
+  where
+    go : (t : Stage) → s .stage ≡ t → outcomeAt t ≡ outcome.Waiting → told (end s .session) ≡ outcome.Failed UnexpectedEof
+    go (Awaiting f) e r = rw e
+    go (Asked v) e r = absurd (true≢false (sym (ap isWaiting r)))
+    go (Open v) e r = absurd (true≢false (sym (ap isWaiting r)))
+    go (Failed x) e r = absurd (true≢false (sym (ap isWaiting r)))
+
 pub in-turn : (s : Server) → InTurn s
 in-turn s =
     record {
@@ -173,5 +183,6 @@ in-turn s =
       deliver-untouched = deliver-untouched s;
       answer-untouched = answer-untouched s;
       end-untouched = end-untouched s;
+      end-fails = end-fails s;
       nothing = nothing s;
     }

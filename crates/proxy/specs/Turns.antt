@@ -2,15 +2,18 @@
 use Prim.Native.Nat.{ℕ, _<_}
 use mathlib.Core.Path.{_≡_}
 use mathlib.Core.List.{List, [], _∷_}
-use lib.ListN.{length}
+use lib.ListN.{length, take}
 use Rattle.protocol.specs.declared.Answer.the-variants.{Accepted, Refused}
 use Rattle.protocol.specs.declared.SocksError.{SocksError}
+use Rattle.protocol.specs.declared.SocksError.the-variants.{UnexpectedEof}
+use Rattle.protocol.specs.declared.Version.{Version}
 use Rattle.protocol.specs.Numbers.{answerNumber}
 use Rattle.protocol.specs.Bound.{Endpoint}
 use Rattle.protocol.specs.Opening.{_↣_, Answers}
-use Rattle.serving_stages.specs.declared.Outcome.the-variants.{Waiting, Asked}
+use Rattle.serving.specs.End.{replyTo, stageAfter}
+use Rattle.serving_stages.specs.declared.Outcome.the-variants.{Waiting, Asked, Failed}
 use Rattle.proxy_calls.specs.declared.Server.{Server}
-use Rattle.proxy_calls.specs.Server.{outcome}
+use Rattle.proxy_calls.specs.Server.{outcome, atStage}
 use Rattle.proxy_calls.specs.Calls.{Call, refusal, deliver, answer, end}
 
 -- a refused call answers with its number, and uses, sends and changes nothing
@@ -26,5 +29,13 @@ pub record InTurn (s : Server) : Type 0 where
   pub deliver-untouched : (piece out : List ℕ) → Untouched (deliver s piece out) s out
   pub answer-untouched : (status : ℕ) (x : Endpoint) (out : List ℕ) → Untouched (answer s status x out) s out
   pub end-untouched : Untouched (end s) s []
+  -- an end of stream in turn: 9
+  pub end-fails : outcome s ≡ Waiting → outcome (end s .session) ≡ Failed UnexpectedEof
   -- an empty piece in turn changes nothing
   pub nothing : (out : List ℕ) → deliver s [] out .answer ≡ Accepted → deliver s [] out ≡ record { answer = Accepted; session = s; used = 0; sent = 0; output = out }
+
+-- the caller's answer to an end that was asked in a version, lent enough: the reply is sent, and the end is then open, or failed with 15 and the status sent; nothing
+-- else of it changes
+pub record Answering (s : Server) (v : Version) (status : ℕ) (x : Endpoint) (out : List ℕ) : Type 0 where
+  pub sends : take (answer s status x out .sent) (answer s status x out .output) ≡ replyTo v status x
+  pub leaves : answer s status x out .session ≡ atStage (stageAfter v status) s

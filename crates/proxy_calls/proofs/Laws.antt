@@ -1,14 +1,13 @@
 -- What the parts of a delivery, an answer and an end come to, and what a set-up keeps.
-use Prim.Native.Nat.{ℕ, _+_, _-_, _≤_, _<_, min}
+use Prim.Native.Nat.{ℕ, _+_, _-_, _≤_, min}
 use native.Mathlib.Nat.{zero-add}
 use native.Mathlib.Omega.{arith}
 use mathlib.Core.Path.{_≡_, refl, ap, sym, _∙_}
-use mathlib.Core.Bool.{Bool, true, false, cond, _&&_, _||_, true≢false}
+use mathlib.Core.Bool.{Bool, true, false, _||_, true≢false}
 use mathlib.Core.List.{List, [], _∷_, _++_}
-use lib.ListN.{length, take, drop, length-append}
-use lib.Dec.{leb, ltb}
+use lib.ListN.{length, take, drop}
+use lib.Dec.{ltb}
 use borrow.Author.Tests.{le-leb, lt-leb, ltb-false}
-use Rattle.protocol.specs.declared.Answer as code
 use Rattle.protocol.specs.declared.Answer.the-variants.{Accepted, Refused}
 use Rattle.protocol.specs.declared.SocksError.the-variants.{CredentialTooLong}
 use Rattle.protocol.specs.declared.Bound.{Bound}
@@ -27,7 +26,6 @@ use Rattle.serving_stages.specs.Told.{endAt, hasDestination}
 use Rattle.destinations.specs.Last.{targetAs}
 use Rattle.wire.proofs.Parts.{take-min}
 use Rattle.serving_stages.specs.Answers as stages
-use Rattle.serving_pieces.specs.declared.Taken.{Taken}
 use Rattle.serving_pieces.specs.declared.Received.{Received}
 use Rattle.serving_pieces.specs.Pieces.{Waits, Takes, Ways, settled, short, none, taken, Receives}
 use Rattle.proxy_calls.specs.declared.Credential.{Credential}
@@ -35,7 +33,7 @@ use Rattle.proxy_calls.specs.declared.Server.{Server}
 use Rattle.proxy_calls.specs.declared.Ended.{Ended}
 use Rattle.proxy_calls.specs.declared.SetUp.{SetUp}
 use Rattle.proxy_calls.specs.Server.{credentialOf, textOf, setupOf, sideOf, view, atStage, destination, fresh}
-use Rattle.proxy_calls.specs.Calls.{Call, Delivers, delivered, Answers, answered, endedBy, moves, takes, deliver, answer, end, tooLong, setUp}
+use Rattle.proxy_calls.specs.Calls.{Call, Delivers, delivered, Answers, endedBy, moves, takes, deliver, answer, end, tooLong, setUp}
 use Rattle.talk.specs.Talk.{feed, onward, isOver}
 use Rattle.wire.specs.Written.{overwrite}
 

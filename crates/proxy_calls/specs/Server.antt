@@ -1,7 +1,7 @@
 -- The proxy's end as the calls hold it, and the session of a handshake's side that it stands for.
 use Prim.Native.Nat.{ℕ}
 use mathlib.Core.Bool.{Bool, cond}
-use mathlib.Core.List.{List, [], _++_}
+use mathlib.Core.List.{List, _++_}
 use lib.ListN.{length, take, drop, replicate}
 use Rattle.protocol.specs.Bytes.{padded}
 use Rattle.protocol.specs.Requests.{kindOf}

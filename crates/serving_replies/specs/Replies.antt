@@ -1,6 +1,6 @@
 -- The bytes of a reply with an address: a record as a lookup gives it, and a port.
 use Prim.Native.Nat.{ℕ}
-use mathlib.Core.List.{List, [], _∷_, _++_}
+use mathlib.Core.List.{List, _∷_, _++_}
 use lib.ListN.{replicate}
 use Rattle.protocol.specs.declared.Family.{Family}
 use Rattle.protocol.specs.declared.Family.the-variants.{Four, Six}

@@ -1,11 +1,11 @@
 -- A turn by how its field is read, and turns one behind the other.
-use Prim.Native.Nat.{ℕ, _+_, _-_, _≤_, _<_}
-use native.Mathlib.Nat.{le-refl, le-trans, add-zero}
+use Prim.Native.Nat.{ℕ, _+_, _-_, _≤_}
+use native.Mathlib.Nat.{le-refl, add-zero}
 use native.Mathlib.Omega.{arith}
-use mathlib.Core.Path.{_≡_, refl, sym, ap, _∙_, subst}
+use mathlib.Core.Path.{_≡_, refl, sym, ap, _∙_}
 use mathlib.Core.Bool.{Bool, true, false, true≢false, _&&_}
 use mathlib.Core.List.{List, [], _++_, append-nil}
-use lib.ListN.{length, take, drop, length-append, length-drop, take-append-drop}
+use lib.ListN.{length, take, drop, length-drop, take-append-drop}
 use lib.Seq.{length-take-le, drop-drop}
 use Rattle.protocol.specs.declared.SocksError.{SocksError}
 use Rattle.protocol.specs.declared.Version.{Version}
@@ -26,7 +26,7 @@ use Rattle.serving.specs.End.{Setup, chosen, offers, same, saidBy}
 use Rattle.serving.specs.Side.{isKnown, reads, talkAt, server}
 use Rattle.serving.proofs.Side.{server-lawful, held-most}
 use Rattle.judging.specs.declared.Due.{Due}
-use Rattle.judging.specs.Due.{dueAt, asksAt, sessionAt, talkFrom, rank}
+use Rattle.judging.specs.Due.{dueAt, asksAt, sessionAt, talkFrom}
 use Rattle.judging.proofs.Laws.{feed-undecided, feed-bad, talk-due, feed-due, feed-over, rank-falls, never-open}
 use Rattle.destinations.specs.Last.{Last}
 use Rattle.wire.specs.Written.{Wrote, overwrite}
@@ -37,8 +37,8 @@ use Rattle.serving_turns.specs.declared.Turn.{Turn}
 use Rattle.serving_turns.specs.declared.Step.{Step}
 use Rattle.serving_turns.specs.Turns.{awaitedIn, Rests, Ready, Worked, Goes, Steps}
 use Rattle.talk.specs.Decision.{Decision, undecided, decided, good, bad, Verdict}
-use Rattle.talk.specs.Talk.{Fed, feed, moving, sending, unmoved, ended, failed, waiting}
-use Rattle.talk.proofs.Feed.{Within, within-of, first-of, same-fed}
+use Rattle.talk.specs.Talk.{feed, moving, sending, unmoved}
+use Rattle.talk.proofs.Feed.{within-of, first-of, same-fed}
 
 pub wrote-none : (out : List ℕ) (at : ℕ) → at ≤ length out → Wrote out at [] at out
 unfolding overwrite

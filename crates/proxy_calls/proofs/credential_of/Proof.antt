@@ -6,9 +6,6 @@ use Rattle.wire.proofs.Laws.{zeros-under}
 use borrow.Author.Needs.{needs}
 use Rattle.proxy_calls.proofs.credential_of.Statement.{statement}
 use Rattle.proxy_calls.proofs.credential_of.Tie as tie
-use Rattle.proxy_calls.proofs.credential_of.Reads as reads
-use Rattle.proxy_calls.proofs.credential_of.Lts as lts
-use Rattle.wire.proofs.copy.Reads as copy-reads
 
 -- src/lib.rt:74:10
 slice-aggregate-copy : tie.Need-slice-aggregate-copy

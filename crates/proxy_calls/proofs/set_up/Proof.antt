@@ -1,14 +1,9 @@
-use mathlib.Core.Path.{_≡_, sym, _∙_}
+use mathlib.Core.Path.{sym, _∙_}
 use borrow.Author.Tests.{not-true, not-false}
 use Rattle.proxy_calls.proofs.Laws.{set-refused, set-without, set-with, short-enough}
 use borrow.Author.Needs.{needs}
 use Rattle.proxy_calls.proofs.set_up.Statement.{statement}
 use Rattle.proxy_calls.proofs.set_up.Tie as tie
-use Rattle.proxy_calls.proofs.set_up.Reads as reads
-use Rattle.proxy_calls.proofs.set_up.Lts as lts
-use Rattle.checks.proofs.credentials_too_long.Reads as credentials-too-long-reads
-use Rattle.proxy_calls.proofs.credential_of.Reads as credential-of-reads
-use Rattle.proxy_calls.proofs.fresh.Reads as fresh-reads
 
 -- src/lib.rt:103:30
 slice-aggregate-credential-of : tie.Need-slice-aggregate-credential-of

@@ -3,7 +3,6 @@ use Rattle.serving_pieces.proofs.Ways.{receives-settled}
 use borrow.Author.Needs.{needs}
 use Rattle.serving_pieces.proofs.receive.Statement.{statement}
 use Rattle.serving_pieces.proofs.receive.Tie as tie
-use Rattle.serving_pieces.proofs.receive_awaiting.Reads as receive-awaiting-reads
 
 enum-known-stage : tie.Need-enum-known-stage
 enum-known-stage c = search needs

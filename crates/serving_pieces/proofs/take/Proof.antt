@@ -5,7 +5,6 @@ use Rattle.serving_pieces.proofs.Keeping.{held-long, place-inside, room
 use borrow.Author.Needs.{needs}
 use Rattle.serving_pieces.proofs.take.Statement.{statement}
 use Rattle.serving_pieces.proofs.take.Tie as tie
-use Rattle.serving_pieces.proofs.came_to.Reads as came-to-reads
 
 slice-reshare-prefix-work : tie.Need-slice-reshare-prefix-work
 slice-reshare-prefix-work c = search needs

@@ -1,8 +1,6 @@
 use borrow.Author.Needs.{needs}
 use Rattle.serving_turns.proofs.awaited.Statement.{statement}
 use Rattle.serving_turns.proofs.awaited.Tie as tie
-use Rattle.serving_turns.proofs.awaited.Reads as reads
-use Rattle.serving_turns.proofs.awaited.Lts as lts
 
 -- src/lib.rt:62:25
 enum-known-stage : tie.Need-enum-known-stage

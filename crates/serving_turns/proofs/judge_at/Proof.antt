@@ -2,10 +2,6 @@ use Rattle.wire.proofs.Parts.{part-two}
 use borrow.Author.Needs.{needs}
 use Rattle.serving_turns.proofs.judge_at.Statement.{statement}
 use Rattle.serving_turns.proofs.judge_at.Tie as tie
-use Rattle.serving_turns.proofs.judge_at.Reads as reads
-use Rattle.serving_turns.proofs.judge_at.Lts as lts
-use Rattle.judging.proofs.judge.Reads as judge-reads
-use Rattle.wire.proofs.least.Reads as least-reads
 
 -- src/lib.rt:45:9
 least-requires : tie.Need-least-requires

@@ -7,11 +7,6 @@ use Rattle.judging.proofs.Laws.{rank-bounds}
 use borrow.Author.Needs.{needs}
 use Rattle.serving_turns.proofs.step_good.Statement.{statement}
 use Rattle.serving_turns.proofs.step_good.Tie as tie
-use Rattle.serving_turns.proofs.step_good.Reads as reads
-use Rattle.serving_turns.proofs.step_good.Lts as lts
-use Rattle.serving_replies.proofs.put.Reads as put-reads
-use Rattle.serving_turns.proofs.awaited.Reads as awaited-reads
-use Rattle.serving_turns.proofs.judge_at.Reads as judge-at-reads
 
 -- src/lib.rt:113:9
 judge-at-requires : tie.Need-judge-at-requires

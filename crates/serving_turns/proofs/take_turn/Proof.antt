@@ -13,11 +13,6 @@ use Rattle.talk.specs.Decision.{Verdict, decided, good}
 use borrow.Author.Needs.{needs}
 use Rattle.serving_turns.proofs.take_turn.Statement.{statement}
 use Rattle.serving_turns.proofs.take_turn.Tie as tie
-use Rattle.serving_turns.proofs.take_turn.Reads as reads
-use Rattle.serving_turns.proofs.take_turn.Lts as lts
-use Rattle.request_fields.proofs.read_at.Reads as read-at-reads
-use Rattle.serving_turns.proofs.step_good.Reads as step-good-reads
-use Rattle.serving_turns.proofs.stops.Reads as stops-reads
 
 -- what is known from the start on: the place is among the bytes, the output goes as far as what was sent, and the bytes are bytes
 there : (c : tie.After-slice-known) → (let a = c .before .before .before .before .before .args in a .place ≤ length (a .held .now ++ a .piece .now))

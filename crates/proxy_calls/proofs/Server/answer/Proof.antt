@@ -3,9 +3,6 @@ use Rattle.proxy_calls.proofs.Laws.{answers}
 use borrow.Author.Needs.{needs}
 use Rattle.proxy_calls.proofs.Server.answer.Statement.{statement}
 use Rattle.proxy_calls.proofs.Server.answer.Tie as tie
-use Rattle.proxy_calls.proofs.Server.answer.Reads as reads
-use Rattle.proxy_calls.proofs.Server.answer.Lts as lts
-use Rattle.serving_stages.proofs.answer.Reads as answer-reads
 
 -- src/lib.rt:192:13
 answer-requires : tie.Need-answer-requires

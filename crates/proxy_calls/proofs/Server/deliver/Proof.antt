@@ -7,10 +7,6 @@ use Rattle.proxy_calls.proofs.Laws.{delivers}
 use borrow.Author.Needs.{needs}
 use Rattle.proxy_calls.proofs.Server.deliver.Statement.{statement}
 use Rattle.proxy_calls.proofs.Server.deliver.Tie as tie
-use Rattle.proxy_calls.proofs.Server.deliver.Reads as reads
-use Rattle.proxy_calls.proofs.Server.deliver.Lts as lts
-use Rattle.serving_pieces.proofs.receive.Reads as receive-reads
-use Rattle.wire.proofs.wide.Reads as wide-reads
 
 -- a credential's length is a byte, and its array has as many
 user-long : (c : tie.Start) → length (c .args .self .user .bytes) ≡ 255

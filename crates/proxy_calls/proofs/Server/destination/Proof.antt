@@ -7,12 +7,6 @@ use Rattle.proxy_calls.proofs.Laws.{no-destination, destination-is}
 use borrow.Author.Needs.{needs}
 use Rattle.proxy_calls.proofs.Server.destination.Statement.{statement}
 use Rattle.proxy_calls.proofs.Server.destination.Tie as tie
-use Rattle.proxy_calls.proofs.Server.destination.Reads as reads
-use Rattle.proxy_calls.proofs.Server.destination.Lts as lts
-use Rattle.destinations.proofs.as_target.Reads as as-target-reads
-use Rattle.proxy_calls.proofs.no_target.Reads as no-target-reads
-use Rattle.serving_stages.proofs.has_destination.Reads as has-destination-reads
-use Rattle.wire.proofs.least.Reads as least-reads
 
 hold-long : (c : tie.Start) → length (c .args .self .hold) ≡ 1014
 hold-long c = search needs

@@ -2,9 +2,6 @@ use Rattle.proxy_calls.proofs.Laws.{ends-as}
 use borrow.Author.Needs.{needs}
 use Rattle.proxy_calls.proofs.Server.end.Statement.{statement}
 use Rattle.proxy_calls.proofs.Server.end.Tie as tie
-use Rattle.proxy_calls.proofs.Server.end.Reads as reads
-use Rattle.proxy_calls.proofs.Server.end.Lts as lts
-use Rattle.serving_stages.proofs.end.Reads as end-reads
 
 -- src/lib.rt:219:13
 end-requires : tie.Need-end-requires
