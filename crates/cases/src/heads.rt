@@ -64,7 +64,7 @@ pub fn is_version(b: u8) -> bool
     b == 4 || b == 5
 }
 
-fn is_family(b: u8) -> bool
+pub fn is_family(b: u8) -> bool
     ensures { λ r. ⌜ r ≡ isFamily b ⌝ }
 {
     b == 4 || b == 6
@@ -170,7 +170,7 @@ fn address_at(s: &[u8], at: usize) -> [u8; 16]
     address
 }
 
-fn record_at(s: &[u8], at: usize) -> Record
+pub fn record_at(s: &[u8], at: usize) -> Record
     requires { ⌜ at + 17 ≤ length (now s) ⌝ }
     ensures { λ r. ⌜ r ≡ recordAt (now (s .entry)) at ⌝ }
 {

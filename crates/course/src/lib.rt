@@ -235,6 +235,6 @@ pub fn finish(course: Course, flags: u8, lent: usize, kept: &[u8], text: &mut [u
     let after = last.session;
     let outcome = after.outcome();
     let end = last.end;
-    let at = tally::put(tally, outcome, end, kept, text);
+    let at = tally::put(tally, report::state_of(outcome), end, kept, text);
     close_course(after, flags, lent, text, at)
 }

@@ -4,7 +4,7 @@ ghost use lib.ListN.{length};
 ghost use Rattle.numerals.specs.Added.{Adds};
 ghost use Rattle.report.specs.Text.{resultsText, answersText, boundText, attemptsText, asked, closeText, noticeText};
 use numerals::put_decimal;
-use protocol::Outcome;
+pub use report_fields::State;
 pub use report_fields::answer_number;
 pub use report_fields::put_bytes;
 use report_fields::put_end;
@@ -13,10 +13,11 @@ use report_fields::put_number;
 use report_fields::put_numbers;
 use report_fields::put_sent;
 use report_fields::put_state;
+pub use report_fields::state_of;
 
 // How the last session stands, how much was used, what the opening answered, and the end, if it was called.
 pub struct Results {
-    pub outcome: Outcome,
+    pub outcome: State,
     pub used: u64,
     pub opened: u8,
     pub ended: bool,

@@ -7,7 +7,9 @@ use lib.ListN.{length}
 use Rattle.numerals.specs.Digits.{hexOf, decimalOf}
 use Rattle.protocol.specs.Numbers.{number, status}
 use Rattle.protocol.specs.declared.Outcome.{Outcome}
-use Rattle.protocol.specs.declared.Outcome.the-variants.{Waiting, Open, Failed}
+use Rattle.protocol.specs.declared.Outcome.the-variants as outcome
+use Rattle.report_fields.specs.declared.State.{State}
+use Rattle.report_fields.specs.declared.State.the-variants.{Waiting, Asked, Open, Failed}
 
 abbrev pub space : List ℕ
 space = 0x20 ∷ []
@@ -25,19 +27,26 @@ fieldOf s = cond (eqb (length s) 0) none (hexOf s)
 abbrev pub numberText : ℕ → List ℕ
 numberText n = decimalOf n ++ space
 
--- `waiting`, 0 for open, or a failure's number
-abbrev pub outcomeText : Outcome → List ℕ
+abbrev pub stateOf : Outcome → State
+stateOf outcome.Waiting = Waiting
+stateOf outcome.Open = Open
+stateOf (outcome.Failed e) = Failed e
+
+-- `waiting`, `asked`, 0 for open, or a failure's number
+abbrev pub outcomeText : State → List ℕ
 outcomeText Waiting = 0x77 ∷ 0x61 ∷ 0x69 ∷ 0x74 ∷ 0x69 ∷ 0x6E ∷ 0x67 ∷ []
+outcomeText Asked = 0x61 ∷ 0x73 ∷ 0x6B ∷ 0x65 ∷ 0x64 ∷ []
 outcomeText Open = 0x30 ∷ []
 outcomeText (Failed e) = decimalOf (number e)
 
-abbrev pub statusOf : Outcome → ℕ
+abbrev pub statusOf : State → ℕ
 statusOf Waiting = 0
+statusOf Asked = 0
 statusOf Open = 0
 statusOf (Failed e) = status e
 
-abbrev pub stateText : Outcome → List ℕ
-stateText o = (outcomeText o ++ space) ++ numberText (statusOf o)
+abbrev pub stateText : State → List ℕ
+stateText s = (outcomeText s ++ space) ++ numberText (statusOf s)
 
 abbrev pub sentText : List ℕ → List ℕ
 sentText s = (space ++ fieldOf s) ++ space

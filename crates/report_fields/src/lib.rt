@@ -5,11 +5,12 @@ ghost use lib.ListN.{length};
 ghost use Rattle.numerals.specs.Added.{Adds};
 ghost use Rattle.numerals.specs.Digits.{decimalOf};
 ghost use Rattle.protocol.specs.Numbers.{answerNumber};
-ghost use Rattle.report_fields.specs.Fields.{fieldOf, numberText, outcomeText, statusOf, stateText, sentText, moreText, numbersText, endText};
+ghost use Rattle.report_fields.specs.Fields.{fieldOf, numberText, stateOf, outcomeText, statusOf, stateText, sentText, moreText, numbersText, endText};
 use numerals::put_decimal;
 use numerals::put_hex;
 use protocol::Answer;
 use protocol::Outcome;
+use protocol::SocksError;
 
 pub fn put_bytes(s: &[u8], text: &mut [u8], at: usize) -> usize
     requires { ⌜ at + length (now s) ≤ length (now text) ⌝ }
@@ -68,38 +69,58 @@ pub fn answer_number(answer: Answer) -> u8
     }
 }
 
-// `waiting`, or 0 for open, or the number of a failure.
-fn put_outcome(outcome: Outcome, text: &mut [u8], at: usize) -> usize
+// How a session stands, or the proxy's end, which is asked while it awaits its caller's answer.
+pub enum State {
+    Waiting,
+    Asked,
+    Open,
+    Failed(SocksError),
+}
+
+pub fn state_of(outcome: Outcome) -> State
+    ensures { λ r. ⌜ r ≡ stateOf outcome ⌝ }
+{
+    match outcome {
+        Outcome::Waiting => State::Waiting,
+        Outcome::Open => State::Open,
+        Outcome::Failed(error) => State::Failed(error),
+    }
+}
+
+// `waiting`, `asked`, or 0 for open, or the number of a failure.
+fn put_outcome(state: State, text: &mut [u8], at: usize) -> usize
     requires { ⌜ at + 20 ≤ length (now text) ⌝ }
     ensures { λ r. ⌜ r ≤ at + 20 ⌝ }
-    ensures { λ r. ⌜ Adds (now (text .entry)) at (outcomeText outcome) r (now (text .exit)) ⌝ }
+    ensures { λ r. ⌜ Adds (now (text .entry)) at (outcomeText state) r (now (text .exit)) ⌝ }
 {
-    match outcome {
-        Outcome::Waiting => put_bytes(b"waiting", text, at),
-        Outcome::Open => put_bytes(b"0", text, at),
-        Outcome::Failed(error) => put_code(error_numbers::number(error), text, at),
+    match state {
+        State::Waiting => put_bytes(b"waiting", text, at),
+        State::Asked => put_bytes(b"asked", text, at),
+        State::Open => put_bytes(b"0", text, at),
+        State::Failed(error) => put_code(error_numbers::number(error), text, at),
     }
 }
 
-fn status_of(outcome: Outcome) -> u8
-    ensures { λ r. ⌜ r ≡ statusOf outcome ⌝ }
+fn status_of(state: State) -> u8
+    ensures { λ r. ⌜ r ≡ statusOf state ⌝ }
 {
-    match outcome {
-        Outcome::Waiting => 0,
-        Outcome::Open => 0,
-        Outcome::Failed(error) => error_numbers::status(error),
+    match state {
+        State::Waiting => 0,
+        State::Asked => 0,
+        State::Open => 0,
+        State::Failed(error) => error_numbers::status(error),
     }
 }
 
-// An outcome, its status, and a space behind each.
-pub fn put_state(outcome: Outcome, text: &mut [u8], at: usize) -> usize
+// A state, its status, and a space behind each.
+pub fn put_state(state: State, text: &mut [u8], at: usize) -> usize
     requires { ⌜ at + 42 ≤ length (now text) ⌝ }
     ensures { λ r. ⌜ r ≤ at + 42 ⌝ }
-    ensures { λ r. ⌜ Adds (now (text .entry)) at (stateText outcome) r (now (text .exit)) ⌝ }
+    ensures { λ r. ⌜ Adds (now (text .entry)) at (stateText state) r (now (text .exit)) ⌝ }
 {
-    let end = put_outcome(outcome, text, at);
+    let end = put_outcome(state, text, at);
     text[end] = b' ';
-    put_number(status_of(outcome) as u64, text, end + 1)
+    put_number(status_of(state) as u64, text, end + 1)
 }
 
 // Numbers with a comma before each.

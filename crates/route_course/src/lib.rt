@@ -144,6 +144,6 @@ pub fn finish(course: Course, flags: u8, kept: &[u8], text: &mut [u8]) -> usize
     let after = last.route;
     let outcome = after.outcome();
     let end = last.end;
-    let at = tally::put(tally, outcome, end, kept, text);
+    let at = tally::put(tally, report::state_of(outcome), end, kept, text);
     lines::close_line(closing_of(after, flags), &kept[..0], text, at)
 }

@@ -10,8 +10,8 @@ ghost use Rattle.numerals.specs.Added.{Adds};
 ghost use Rattle.tally.specs.Bounds.{restOf, Fresh, Keeps, Rooms};
 use lines::Line;
 use protocol::Answer;
-use protocol::Outcome;
 use report::Results;
+use report::State;
 
 // room: the output that a delivery lends of which the rest is told. opened: the opening's answer. used: by all deliveries. sent: how many
 // bytes were kept of what all calls sent. count: how many deliveries there were.
@@ -124,7 +124,7 @@ pub struct End {
 }
 
 // The line of a case, up to what closes it.
-pub fn put(tally: Tally, outcome: Outcome, end: End, kept: &[u8], text: &mut [u8]) -> usize
+pub fn put(tally: Tally, outcome: State, end: End, kept: &[u8], text: &mut [u8]) -> usize
     requires { ⌜ (Keeps tally (length (now text))) × (Rooms (length (now kept)) (length (now text))) ⌝ }
     ensures { λ r. ⌜ r ≤ length (now (text .entry)) ⌝ }
 {

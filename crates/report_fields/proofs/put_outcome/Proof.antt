@@ -20,8 +20,17 @@ slice-aggregate-put-bytes-2 c = search needs
 put-bytes-requires-2 : tie.Need-put-bytes-requires-2
 put-bytes-requires-2 c κs = search needs
 
-enum-known-outcome : tie.Need-enum-known-outcome
-enum-known-outcome c = search needs
+enum-told-3 : tie.Need-enum-told-3
+enum-told-3 c = search needs
+
+slice-aggregate-put-bytes-3 : tie.Need-slice-aggregate-put-bytes-3
+slice-aggregate-put-bytes-3 c = search needs
+
+put-bytes-requires-3 : tie.Need-put-bytes-requires-3
+put-bytes-requires-3 c κs = search needs
+
+enum-known-state : tie.Need-enum-known-state
+enum-known-state c = search needs
 
 number-requires : tie.Need-number-requires
 number-requires c κs = search needs
@@ -45,7 +54,13 @@ same-length-3 : tie.Need-same-length-3
 same-length-3 c = search needs
 
 returns-3 : tie.Need-returns-3
-returns-3 c = (search needs, rw (c .before .before .before .before .before .before .outcome .given .1, ← c .before .before .before .before .number .ensures) (c .before .before .put-code .ensures .1))
+returns-3 c = (search needs, rw (c .before .before .before .before .before .enum-told3 .given .1) (c .before .before .put-bytes3 .ensures .1))
+
+same-length-4 : tie.Need-same-length-4
+same-length-4 c = search needs
+
+returns-4 : tie.Need-returns-4
+returns-4 c = (search needs, rw (c .before .before .before .before .before .before .state .given .1, ← c .before .before .before .before .number .ensures) (c .before .before .put-code .ensures .1))
 
 pub put-outcome-spec : {M : Type 1} → statement M
 put-outcome-spec =
@@ -57,7 +72,10 @@ put-outcome-spec =
     enum-told-2
     slice-aggregate-put-bytes-2
     put-bytes-requires-2
-    enum-known-outcome
+    enum-told-3
+    slice-aggregate-put-bytes-3
+    put-bytes-requires-3
+    enum-known-state
     number-requires
     put-code-requires
     same-length
@@ -65,4 +83,6 @@ put-outcome-spec =
     same-length-2
     returns-2
     same-length-3
-    returns-3)
+    returns-3
+    same-length-4
+    returns-4)
