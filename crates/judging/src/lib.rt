@@ -1,8 +1,6 @@
 // What follows a whole field of a client's requests: what the end says, and which field it then awaits, or how it stands.
 ghost use mathlib.Core.Path.{_≡_};
 ghost use mathlib.Core.List.{_++_};
-ghost use Rattle.serving.specs.declared.Field.the-variants as Field;
-ghost use Rattle.serving.specs.declared.Says.the-variants as Says;
 ghost use Rattle.judging.specs.Due.{goesTo, failsWith, asksIn, behindGreeting, dueFirst, dueMethods, duePassword, dueHead, dueAddress, dueRequest, dueUserId, dueAt};
 use field_tests::announces_name;
 use field_tests::is_known;

@@ -8,12 +8,13 @@ use crate::model::{Step, plan, prepare};
 use crate::rust;
 use std::net::IpAddr;
 
-// What a client makes of an end that came to this.
-fn meant(line: &Line) -> Option<(u8, u8)> {
+// What a client that sent these bytes makes of an end that came to this. Over v4 wrong credentials are answered as any refusal is.
+fn meant(line: &Line, used: &[u8]) -> Option<(u8, u8)> {
     match line.told.outcome? {
         0 => Some((0, 0)),
         12 => Some((12, 0)),
         15 => Some((15, line.told.status)),
+        20 if used.first() == Some(&4) => Some((15, 91)),
         20 => Some((14, 0)),
         _ => None,
     }
@@ -70,7 +71,7 @@ fn client(used: &[u8], line: &Line) -> Option<case::Case> {
 
 // That client, if there is one.
 fn client_of(line: &Line, used: &[u8]) -> Option<(case::Case, u8, u8)> {
-    let (number, status) = meant(line)?;
+    let (number, status) = meant(line, used)?;
     Some((client(used, line)?, number, status))
 }
 
