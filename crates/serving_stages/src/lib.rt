@@ -95,7 +95,8 @@ fn unanswered(error: SocksError, stage: Stage) -> Said
     }
 }
 
-fn success(version: Version) -> u8
+// The status of success in a version.
+pub fn success(version: Version) -> u8
     ensures { λ r. ⌜ r ≡ machine.success version ⌝ }
 {
     match version {

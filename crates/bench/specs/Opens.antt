@@ -1,0 +1,20 @@
+-- What the program answers a destination with, and what comes of it.
+use Prim.Native.Nat.{ℕ, _≤_}
+use mathlib.Core.Path.{_≡_}
+use Rattle.serving.specs.declared.Stage.{Stage}
+use Rattle.serving.specs.declared.Stage.the-variants.{Awaiting, Asked, Open, Failed}
+use Rattle.serving.specs.End.{success}
+use Rattle.serving_stages.specs.declared.Outcome.the-variants as outcome
+use Rattle.proxy_calls.specs.declared.Server.{Server}
+use Rattle.proxy_calls.specs.Server as calls
+
+-- success in the version that asks
+abbrev pub successAt : Stage → ℕ
+successAt (Awaiting f) = 0
+successAt (Asked v) = success v
+successAt (Open v) = 0
+successAt (Failed e) = 0
+
+-- an end that was lent enough output and had handed out a destination is open after it
+abbrev pub Opens : Server → ℕ → Server → Type 0
+Opens s room s′ = 262 ≤ room → calls.outcome s ≡ outcome.Asked → calls.outcome s′ ≡ outcome.Open
