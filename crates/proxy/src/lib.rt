@@ -11,4 +11,5 @@ pub use serving::Field;
 pub use serving::Ports;
 pub use serving::Stage;
 pub use serving_stages::Outcome;
+pub use serving_stages::success;
 pub use wire::rest;
