@@ -26,8 +26,9 @@ use Rattle.serving_stages.specs.Told.{endAt, hasDestination}
 use Rattle.destinations.specs.Last.{targetAs}
 use Rattle.wire.proofs.Parts.{take-min}
 use Rattle.serving_stages.specs.Answers as stages
-use Rattle.serving_pieces.specs.declared.Received.{Received}
-use Rattle.serving_pieces.specs.Pieces.{Waits, Takes, Ways, settled, short, none, taken, Receives}
+use Rattle.serving_receiving.specs.declared.Received.{Received}
+use Rattle.serving_pieces.specs.Pieces.{Takes}
+use Rattle.serving_receiving.specs.Received.{Waits, Ways, settled, short, none, taken, Receives}
 use Rattle.proxy_calls.specs.declared.Credential.{Credential}
 use Rattle.proxy_calls.specs.declared.Server.{Server}
 use Rattle.proxy_calls.specs.declared.Ended.{Ended}

@@ -17,7 +17,7 @@ use protocol::Record;
 use protocol::SocksError;
 use serving::Field;
 use serving::Stage;
-use serving_pieces::receive;
+use serving_receiving::receive;
 use serving_stages::Outcome;
 use serving_stages::has_destination;
 use wire::copy;

@@ -1,20 +1,16 @@
-// A piece for the proxy's end: whether it is taken, what its turns come to, and the undecided rest, or the destination, kept at the start of the
-// hold.
+// A piece taken by the proxy's end: what its turns come to, and the undecided rest, or the destination, kept at the start of the hold.
 ghost use mathlib.Core.Path.{_≡_};
 ghost use mathlib.Core.List.{_++_};
 ghost use Prim.Native.Nat.{_+_, _-_, _≤_};
 ghost use lib.ListN.{length, take, drop};
 ghost use Rattle.wire.specs.Written.{overwrite};
 ghost use Rattle.judging.specs.Due.{asksAt, sessionAt};
-ghost use Rattle.serving.specs.declared.Stage.the-variants as Stage;
 ghost use Rattle.destinations.specs.Last.{Last};
 ghost use Rattle.serving_turns.specs.Turns.{Rests, Ready, lastIn};
-ghost use Rattle.serving_pieces.specs.Pieces.{unchanged, Keeps, Asks, Takes, Receives};
+ghost use Rattle.serving_pieces.specs.Pieces.{Keeps, Asks, Takes};
 use destinations::keep;
 use holding::keep_rest;
-use protocol::Answer;
 use protocol::Bound;
-use protocol::SocksError;
 use serving::Field;
 use serving::Stage;
 use serving_turns::Turn;
@@ -94,7 +90,7 @@ fn came_to(turn: Turn, hold: &mut [u8], n: usize, piece: &[u8], bound: Bound) ->
 }
 
 // Takes a piece behind the first n bytes of the hold.
-fn take(
+pub fn take(
     field: Field,
     authenticates: bool,
     user: &[u8],
@@ -120,102 +116,4 @@ fn take(
         0,
     );
     came_to(turn, hold, n, piece, bound)
-}
-
-// What a delivery answers, and what the piece came to.
-pub struct Received {
-    pub answer: Answer,
-    pub taken: Taken,
-}
-
-// Nothing was taken.
-fn unchanged(answer: Answer, stage: Stage, held: usize, bound: Bound) -> Received
-    ensures { λ r. ⌜ r ≡ unchanged answer stage held bound ⌝ }
-{
-    Received {
-        answer: answer,
-        taken: Taken {
-            stage: stage,
-            held: held,
-            used: 0,
-            sent: 0,
-            bound: bound,
-        },
-    }
-}
-
-// A piece for an end that waits. An empty one changes nothing.
-fn receive_awaiting(
-    field: Field,
-    held: usize,
-    authenticates: bool,
-    user: &[u8],
-    password: &[u8],
-    hold: &mut [u8],
-    piece: &[u8],
-    bound: Bound,
-    out: &mut [u8],
-) -> Received
-    requires { ⌜ length (now hold) ≡ 1014 ⌝ }
-    ensures { λ r. ⌜ Receives (Stage.Awaiting field) held (record { authenticates = authenticates; user = now (user .entry); password = now (password .entry) }) (now (hold .entry)) (now (piece .entry)) bound (now (out .entry)) r (now (hold .exit)) (now (out .exit)) ⌝ }
-{
-    let stage = Stage::Awaiting(field);
-    if out.len() < 262 {
-        return unchanged(Answer::Refused(SocksError::ShortOutput), stage, held, bound);
-    }
-    if piece.len() == 0 {
-        return unchanged(Answer::Accepted, stage, held, bound);
-    }
-    Received {
-        answer: Answer::Accepted,
-        taken: take(
-            field,
-            authenticates,
-            user,
-            password,
-            hold,
-            least(held, 1014),
-            piece,
-            bound,
-            out,
-        ),
-    }
-}
-
-// A piece for the proxy's end, with what it was set up with.
-pub fn receive(
-    stage: Stage,
-    held: usize,
-    authenticates: bool,
-    user: &[u8],
-    password: &[u8],
-    hold: &mut [u8],
-    piece: &[u8],
-    bound: Bound,
-    out: &mut [u8],
-) -> Received
-    requires { ⌜ length (now hold) ≡ 1014 ⌝ }
-    ensures { λ r. ⌜ Receives stage held (record { authenticates = authenticates; user = now (user .entry); password = now (password .entry) }) (now (hold .entry)) (now (piece .entry)) bound (now (out .entry)) r (now (hold .exit)) (now (out .exit)) ⌝ }
-{
-    match stage {
-        Stage::Awaiting(field) => receive_awaiting(
-            field,
-            held,
-            authenticates,
-            user,
-            password,
-            hold,
-            piece,
-            bound,
-            out,
-        ),
-        Stage::Asked(version) => unchanged(
-            Answer::Refused(SocksError::Settled),
-            stage,
-            held,
-            bound,
-        ),
-        Stage::Open(version) => unchanged(Answer::Refused(SocksError::Settled), stage, held, bound),
-        Stage::Failed(error) => unchanged(Answer::Refused(SocksError::Settled), stage, held, bound),
-    }
 }

@@ -1,8 +1,8 @@
 use Rattle.serving.specs.declared.Stage.the-variants.{Asked, Open, Failed}
-use Rattle.serving_pieces.proofs.Ways.{receives-settled}
+use Rattle.serving_receiving.proofs.Ways.{receives-settled}
 use borrow.Author.Needs.{needs}
-use Rattle.serving_pieces.proofs.receive.Statement.{statement}
-use Rattle.serving_pieces.proofs.receive.Tie as tie
+use Rattle.serving_receiving.proofs.receive.Statement.{statement}
+use Rattle.serving_receiving.proofs.receive.Tie as tie
 
 enum-known-stage : tie.Need-enum-known-stage
 enum-known-stage c = search needs

@@ -14,9 +14,10 @@ use Rattle.serving.specs.declared.Field.{Field}
 use Rattle.serving.specs.declared.Stage.{Stage}
 use Rattle.serving.specs.declared.Stage.the-variants.{Awaiting}
 use Rattle.serving.specs.End.{Setup}
 use Rattle.serving_pieces.specs.declared.Taken.{Taken}
-use Rattle.serving_pieces.specs.declared.Received.{Received}
-use Rattle.serving_pieces.specs.Pieces.{Takes, unchanged, Waits, settled, short, none, taken, Receives}
+use Rattle.serving_receiving.specs.declared.Received.{Received}
+use Rattle.serving_pieces.specs.Pieces.{Takes}
+use Rattle.serving_receiving.specs.Received.{unchanged, Waits, settled, short, none, taken, Receives}
 
 take-least : (n : ℕ) (l : List ℕ) {m : ℕ} → length l ≡ 1014 → m ≡ min n 1014 → take m l ≡ take n l
 take-least n l h q = rw (q, ← h) (take-min n l)

@@ -1,8 +1,8 @@
 use native.Mathlib.Omega.{arith}
-use Rattle.serving_pieces.proofs.Ways.{receives-short, receives-none, receives-taken}
+use Rattle.serving_receiving.proofs.Ways.{receives-short, receives-none, receives-taken}
 use borrow.Author.Needs.{needs}
-use Rattle.serving_pieces.proofs.receive_awaiting.Statement.{statement}
-use Rattle.serving_pieces.proofs.receive_awaiting.Tie as tie
+use Rattle.serving_receiving.proofs.receive_awaiting.Statement.{statement}
+use Rattle.serving_receiving.proofs.receive_awaiting.Tie as tie
 
 unchanged-requires : tie.Need-unchanged-requires
 unchanged-requires c κs = search needs
