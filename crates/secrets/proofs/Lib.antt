@@ -1,0 +1,5 @@
+pub mod Bytes
+pub mod Talks
+pub mod Sessions
+pub mod Rows
+pub mod Prepared
