@@ -1,11 +1,11 @@
 -- Bytes that agree but at some positions: joined, cut, and where every position is such a one.
-use Prim.Native.Nat.{ℕ, suc, _+_, _-_, _≤_, _<_}
+use Prim.Native.Nat.{ℕ, _+_, _-_, _≤_, _<_}
 use native.Mathlib.Nat.{zero-add}
 use native.Mathlib.Omega.{arith}
 use mathlib.Core.Path.{_≡_, refl, ap, sym, _∙_, subst}
 use mathlib.Core.Bool.{Bool, true, false}
-use mathlib.Core.List.{List, [], _∷_, _++_}
-use lib.ListN.{length, take, drop, getD, length-append, length-take, length-drop, List·getD-eq-default, List·getD-append}
+use mathlib.Core.List.{List, _++_}
+use lib.ListN.{length, drop, length-append, length-take, length-drop, List·getD-eq-default, List·getD-append}
 use lib.Seq.{getD-append-add, getD-take, getD-drop}
 use lib.Dec.{leb}
 use borrow.Author.Tests.{leb-true, leb-false}

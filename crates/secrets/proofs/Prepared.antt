@@ -1,6 +1,6 @@
 -- F-6: two openings alike but for the bytes of user and password are concealed: preparing them, and every row of calls.
-use Prim.Native.Nat.{ℕ, _+_, _-_, _≤_, _<_}
-use native.Mathlib.Nat.{zero-add, add-zero}
+use Prim.Native.Nat.{ℕ, _+_, _-_, _≤_}
+use native.Mathlib.Nat.{add-zero}
 use native.Mathlib.Omega.{arith}
 use mathlib.Core.Path.{_≡_, refl, ap, sym, _∙_, subst}
 use mathlib.Core.Logic.{inl, inr}
@@ -24,8 +24,7 @@ use Rattle.protocol.specs.Opening.{V5, check5, refuse, isEmpty, isMissing, isNa
 use Rattle.protocol.specs.declared.Reply.the-variants.{NegotiationRes}
 use Rattle.sending.specs.declared.Stage.the-variants.{Awaiting}
 use Rattle.session.specs.declared.Session.{Session}
-use Rattle.session.specs.declared.Prepared.{Prepared}
-use Rattle.session.specs.Calls.{fresh, preparedFor, emptySession, preparedBy, prepare5}
+use Rattle.session.specs.Calls.{fresh, preparedFor, preparedBy, prepare5}
 use Rattle.secrets.specs.Places.{Secret, Agree}
 use Rattle.secrets.specs.Calls.{AlikeBut, Call, SameCalls, Hidden, Concealed}
 use Rattle.secrets.proofs.Bytes.{agree-all, agree-none, agree-join}

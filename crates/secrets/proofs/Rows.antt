@@ -1,16 +1,13 @@
 -- Rows of calls on two sessions alike but for stored bytes at some positions.
-use Prim.Native.Nat.{ℕ, _+_, _≤_}
-use native.Mathlib.Nat.{add-zero}
+use Prim.Native.Nat.{ℕ, _+_}
 use mathlib.Core.Path.{_≡_, refl, ap, sym, _∙_, subst}
 use mathlib.Core.Bool.{Bool, true, false, cond}
-use mathlib.Core.List.{List, [], _∷_, _++_}
+use mathlib.Core.List.{List, [], _++_}
 use lib.ListN.{length, take, drop}
 use lib.Seq.{take-append-seam}
 use lib.Dec.{leb}
-use Rattle.protocol.specs.declared.SocksError.the-variants.{Settled, OutOfOrder, NotOpen, UnexpectedEof, ShortText}
-use Rattle.protocol.specs.declared.Answer.the-variants.{Accepted, Refused}
-use Rattle.sending.specs.declared.Stage.{Stage}
-use Rattle.sending.specs.declared.Stage.the-variants.{Awaiting, Open, Failed}
+use Rattle.protocol.specs.declared.SocksError.the-variants.{NotOpen, ShortText}
+use Rattle.protocol.specs.declared.Answer.the-variants.{Accepted}
 use Rattle.stages.specs.Told.{isOpen}
 use Rattle.bound_text.specs.Text as text
 use Rattle.bound_text.specs.Written.{TextCall, unwritten, writeText}
@@ -20,7 +17,7 @@ use Rattle.session.specs.Session.{writeBound}
 use Rattle.secrets.specs.Places.{Agree}
 use Rattle.secrets.specs.Calls.{Asks, start, deliver, end, outcome, attempts, bound, boundText, Call, Returned, started, delivered, ended, written, Made, made, SameCalls, none, more, SameBut, Hidden}
 use Rattle.secrets.proofs.Bytes.{agree-all}
-use Rattle.secrets.proofs.Sessions.{other, Goes, Calls, start-like, deliver-like, end-like}
+use Rattle.secrets.proofs.Sessions.{other, Goes, still, start-like, deliver-like, end-like}
 
 -- a call on both
 pub record Steps (S : ℕ → Type 0) (n : ℕ) (cs : List ℕ) (x y : Made) : Type 0 where
@@ -54,11 +51,8 @@ texts s cs u v z = go (isOpen (s .stage))
     go false = record { returned = refl; text = refl }
 
 module _ (S : ℕ → Type 0) (n : ℕ) (s : Session) (cs : List ℕ) (g : Goes S n s cs) where
-  still : Goes S (n + 0) s cs
-  still = subst (λ (m : ℕ). Goes S m s cs) (sym (add-zero n)) g
-
   quiet : (r : Returned) → Steps S n cs (record { returned = r; session = s; sent = []; text = [] }) (record { returned = r; session = other s cs; sent = []; text = [] })
-  quiet r = record { returned = refl; text = refl; sent = agree-all S n []; session = refl; goes = still }
+  quiet r = record { returned = refl; text = refl; sent = agree-all S n []; session = refl; goes = still S n cs s g }
 
   pub step : (q : Asks) (u v : List ℕ) → length u ≡ length v → Steps S n cs (made s q u) (made (other s cs) q v)
   step start u v z =
@@ -75,7 +69,7 @@ module _ (S : ℕ → Type 0) (n : ℕ) (s : Session) (cs : List ℕ) (g : Goes 
   step bound u v z = quiet _
   step boundText u v z =
       let t = texts s cs u v z in
-      record { returned = t .returned; text = t .text; sent = agree-all S n []; session = refl; goes = still }
+      record { returned = t .returned; text = t .text; sent = agree-all S n []; session = refl; goes = still S n cs s g }
 
 same : (S : ℕ → Type 0) (n : ℕ) (s : Session) (cs : List ℕ) → Goes S n s cs → SameBut S s (other s cs)
 same S n s cs g =

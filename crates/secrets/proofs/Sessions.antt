@@ -1,18 +1,17 @@
 -- Two sessions alike but for stored bytes at some positions; what a start and a delivery do to both.
-use Prim.Native.Nat.{ℕ, suc, _+_, _-_, _≤_, _%_, _^_, min}
+use Prim.Native.Nat.{ℕ, _+_, _-_, _≤_}
 use native.Mathlib.Nat.{add-zero, zero-add}
 use native.Mathlib.Omega.{arith}
 use mathlib.Core.Path.{_≡_, refl, ap, sym, _∙_, subst}
 use mathlib.Core.Bool.{Bool, true, false, cond}
 use mathlib.Core.List.{List, [], _∷_, _++_}
-use lib.ListN.{length, take, drop, length-append}
+use lib.ListN.{length, take, drop}
 use lib.Seq.{take-append-seam}
 use lib.Dec.{leb}
 use Rattle.protocol.specs.declared.Reply.{Reply}
 use Rattle.protocol.specs.declared.Reply.the-variants.{NegotiationRes, AuthenticationRes, ProxyRes, Response}
 use Rattle.protocol.specs.declared.AuthMethod.the-variants.{NoAuth, UserPass, NoneAcceptable}
-use Rattle.protocol.specs.declared.SocksError.{SocksError}
-use Rattle.protocol.specs.declared.SocksError.the-variants.{ShortOutput, UnexpectedEof, Settled, OutOfOrder}
+use Rattle.protocol.specs.declared.SocksError.the-variants.{ShortOutput, Settled, OutOfOrder}
 use Rattle.protocol.specs.declared.Answer.{Answer}
 use Rattle.protocol.specs.declared.Answer.the-variants.{Accepted, Refused}
 use Rattle.protocol.specs.Client.{firstRoom, room, client, talkAt}
@@ -20,13 +19,13 @@ use Rattle.sending.specs.declared.Lengths.{Lengths}
 use Rattle.sending.specs.declared.Requests.{Requests}
 use Rattle.sending.specs.declared.Stage.{Stage}
 use Rattle.sending.specs.declared.Stage.the-variants.{Awaiting, Open, Failed}
-use Rattle.sending.specs.Parts.{negotiationSize, authenticationSize, proxySize, requestSize, negotiationOf, authenticationOf, proxyOf, requestOf, requestsOf, firstOf, firstOf5}
+use Rattle.sending.specs.Parts.{negotiationSize, authenticationSize, proxySize, requestSize, negotiationOf, authenticationOf, proxyOf, requestsOf, firstOf}
 use Rattle.sending.specs.Stages.{SideSession, SideFed, stageOf}
 use Rattle.session.specs.declared.Session.{Session}
-use Rattle.session.specs.Session.{view, heldBytes, packed, attempted}
+use Rattle.session.specs.Session.{heldBytes, packed, attempted}
 use Rattle.session.specs.Calls.{Call, refusal, starts, start, moves, takes, deliver, end}
 use Rattle.talk.specs.Talk.{waiting, ended, done, failed, heldBy, reached, onward, feed}
-use Rattle.talk.specs.Attempts.{attemptsBy, decidedBy, decidedIn, oneIfWaiting}
+use Rattle.talk.specs.Attempts.{decidedBy, decidedIn, oneIfWaiting}
 use Rattle.secrets.specs.Places.{Agree}
 use Rattle.secrets.proofs.Bytes.{part-long, agree-all, agree-join, agree-part}
 use Rattle.secrets.proofs.Talks.{Stands, SideStands, Feeds, feed-like, decided-like, talk-like}
@@ -79,7 +78,7 @@ abbrev nothing : Answer → Session → List ℕ → Call
 nothing a s out = record { answer = a; session = s; used = 0; sent = 0; output = out }
 
 module _ (S : ℕ → Type 0) (n : ℕ) (cs : List ℕ) where
-  still : (s : Session) → Goes S n s cs → Goes S (n + 0) s cs
+  pub still : (s : Session) → Goes S n s cs → Goes S (n + 0) s cs
   still s g = subst (λ (m : ℕ). Goes S m s cs) (sym (add-zero n)) g
 
   quiet : (a : Answer) (s : Session) → Goes S n s cs → (out out′ : List ℕ) → Calls S n cs (nothing a s out) (nothing a (other s cs) out′)

@@ -1,10 +1,10 @@
 -- Two talks alike but for sent bytes at some positions, and what the same bytes do to them.
-use Prim.Native.Nat.{ℕ, suc, _+_, _≤_, min}
-use native.Mathlib.Nat.{add-zero, add-assoc}
+use Prim.Native.Nat.{ℕ, suc, _+_, _≤_}
+use native.Mathlib.Nat.{add-zero}
 use native.Mathlib.Omega.{arith}
 use mathlib.Core.Path.{_≡_, refl, ap, sym, _∙_, subst}
 use mathlib.Core.Bool.{Bool, true, false}
-use mathlib.Core.List.{List, [], _∷_, _++_}
+use mathlib.Core.List.{List, [], _++_}
 use lib.ListN.{length, take, drop, length-append}
 use Rattle.protocol.specs.declared.AuthMethod.the-variants.{NoAuth, UserPass, NoneAcceptable}
 use Rattle.protocol.specs.declared.Reply.{Reply}
@@ -17,8 +17,7 @@ use Rattle.protocol.specs.Bound.{Endpoint}
 use Rattle.protocol.specs.Replies.{decide}
 use Rattle.protocol.specs.Client.{Kept, ClientTalk, due, atProxyRes, atAuthenticationRes, talkAt, told, client}
 use Rattle.sending.specs.declared.Lengths.{Lengths}
-use Rattle.sending.specs.declared.Requests.{Requests}
-use Rattle.sending.specs.Parts.{part, negotiationSize, authenticationSize, proxySize, requestsOf}
+use Rattle.sending.specs.Parts.{negotiationSize, authenticationSize, proxySize, requestsOf}
 use Rattle.sending.specs.Stages.{SideSession, SideFed}
 use Rattle.talk.specs.Talk.{Ending, stop, send, await, waiting, ended, feed, deciding}
 use Rattle.talk.specs.Attempts.{decidedIn, counting}
