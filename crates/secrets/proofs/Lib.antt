@@ -3,3 +3,7 @@ pub mod Talks
 pub mod Sessions
 pub mod Rows
 pub mod Prepared
+pub mod Counts
+pub mod RouteRows
+pub mod RouteKept
+pub mod RouteOpened

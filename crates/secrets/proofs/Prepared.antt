@@ -53,13 +53,13 @@ module _ (u w u′ w′ : List ℕ) (p : length u ≡ length u′) (q : length w
       (agree-join S 5 u u′ (length w ∷ w) (length w′ ∷ w′) user-agree
       (agree-join S (5 + length u) (length w ∷ []) (length w′ ∷ []) w w′ (agree-eq S (5 + length u) (ap (λ (k : ℕ). k ∷ []) q)) password-agree))
 
-  all-agree : (r : List ℕ) → Agree S 0 (negotiationReq UserPass ++ (authenticationReq u w ++ r)) (negotiationReq UserPass ++ (authenticationReq u′ w′ ++ r))
+  pub all-agree : (r : List ℕ) → Agree S 0 (negotiationReq UserPass ++ (authenticationReq u w ++ r)) (negotiationReq UserPass ++ (authenticationReq u′ w′ ++ r))
   unfolding negotiationReq
   all-agree r =
       agree-join S 0 (negotiationReq UserPass) (negotiationReq UserPass) (authenticationReq u w ++ r) (authenticationReq u′ w′ ++ r) (agree-all S 0 (negotiationReq UserPass))
       (agree-join S 3 (authenticationReq u w) (authenticationReq u′ w′) r r credentials-agree (agree-all S (3 + length (authenticationReq u w)) r))
 
-padded-agree : (S : ℕ → Type 0) (n : ℕ) (xs ys : List ℕ) → Agree S 0 xs ys → Agree S 0 (padded n xs) (padded n ys)
+pub padded-agree : (S : ℕ → Type 0) (n : ℕ) (xs ys : List ℕ) → Agree S 0 xs ys → Agree S 0 (padded n xs) (padded n ys)
 padded-agree S n xs ys a =
     agree-join S 0 xs ys (replicate (n - length xs) 0) (replicate (n - length ys) 0) a (agree-eq S (0 + length xs) (ap (λ (k : ℕ). replicate (n - k) 0) (a .long)))
 
@@ -114,15 +114,15 @@ answer-is Accepted o = refl
 answer-is (Refused e) o = refl
 
 module _ (a b : V5) (e : AlikeBut a b) where
-  checks-alike : check5 a ≡ check5 b
+  pub checks-alike : check5 a ≡ check5 b
   unfolding check5
   checks-alike = λ i. checkBy (e .config i) (e .host i) (e .port i) (e .users i) (e .passwords i) (e .records i)
 
-  abbrev destination : Destination
+  abbrev pub destination : Destination
   destination = asked5 (a .config .«local_dns») (a .records) (destinationOf (strip (a .host)))
 
   -- the second opening, as the first with other credentials
-  opening-alike : opening5 b ≡ v5 (credentialsIf (a .config .«proxy_auth») (b .user) (b .password)) destination (portNumber (a .port)) (a .config .optimistic)
+  pub opening-alike : opening5 b ≡ v5 (credentialsIf (a .config .«proxy_auth») (b .user) (b .password)) destination (portNumber (a .port)) (a .config .optimistic)
   unfolding opening5
   opening-alike =
       sym (λ i.

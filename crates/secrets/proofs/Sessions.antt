@@ -85,7 +85,7 @@ module _ (S : ℕ → Type 0) (n : ℕ) (cs : List ℕ) where
   quiet a s g out out′ = record { answer = refl; used = refl; count = refl; sent = agree-all S n []; session = refl; goes = still s g }
 
   -- bytes at an output's start
-  agree-out : (p q u v : List ℕ) → Agree S n p q → Agree S n (take (length p) (p ++ u)) (take (length q) (q ++ v))
+  pub agree-out : (p q u v : List ℕ) → Agree S n p q → Agree S n (take (length p) (p ++ u)) (take (length q) (q ++ v))
   agree-out p q u v a = rw (take-append-seam p u, take-append-seam q v) a
 
   -- ---- start
@@ -110,7 +110,7 @@ module _ (S : ℕ → Type 0) (n : ℕ) (cs : List ℕ) where
         (agree-part S bs cs a (negotiationSize l + authenticationSize l) (proxySize l)))))
     all-agree false = agree-part S bs cs a 0 (negotiationSize l)
 
-    first-agree : (e : Reply) → Agree S 0 (firstOf e one) (firstOf e two)
+    pub first-agree : (e : Reply) → Agree S 0 (firstOf e one) (firstOf e two)
     first-agree (NegotiationRes m) = all-agree (l .optimistic)
     first-agree AuthenticationRes = all-agree (l .optimistic)
     first-agree ProxyRes = all-agree (l .optimistic)
@@ -119,7 +119,7 @@ module _ (S : ℕ → Type 0) (n : ℕ) (cs : List ℕ) where
     plain-long : (o : Bool) → o ≡ false → length (cond o (negotiationOf one ++ (authenticationOf one ++ proxyOf one)) (negotiationOf one)) ≡ negotiationSize l
     plain-long o f = rw f (part-long bs 0 (negotiationSize l) (omega arith))
 
-    first-stands : (e : Reply) → Stands l e (negotiationSize l) → Stands l e (length (firstOf e one))
+    pub first-stands : (e : Reply) → Stands l e (negotiationSize l) → Stands l e (length (firstOf e one))
     first-stands (NegotiationRes NoAuth) p o = plain-long (l .optimistic) o ∙ p o
     first-stands (NegotiationRes UserPass) p o = plain-long (l .optimistic) o ∙ p o
     first-stands (NegotiationRes NoneAcceptable) p o = tt
