@@ -20,7 +20,6 @@ use Rattle.protocol.specs.Bound.{Endpoint}
 use Rattle.protocol.specs.Replies.{decide}
 use Rattle.protocol.specs.Client.{Kept, ClientTalk, due, atProxyRes, atAuthenticationRes, talkAt, told, client, room}
 use Rattle.sending.specs.declared.Lengths.{Lengths}
-use Rattle.sending.specs.declared.Requests.{Requests}
 use Rattle.sending.specs.declared.Stage.{Stage}
 use Rattle.sending.specs.declared.Stage.the-variants.{Awaiting, Open, Failed}
 use Rattle.sending.specs.Parts.{negotiationSize, authenticationSize, proxySize, requestsOf}

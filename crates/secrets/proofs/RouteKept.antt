@@ -8,9 +8,8 @@ use mathlib.Core.Bool.{Bool, true, false, cond}
 use mathlib.Core.List.{List, [], _∷_, _++_}
 use lib.ListN.{length, length-append}
 use Rattle.protocol.specs.declared.AuthMethod.the-variants.{NoAuth, UserPass}
-use Rattle.protocol.specs.declared.Reply.{Reply}
 use Rattle.protocol.specs.AddressReading.{Destination}
-use Rattle.protocol.specs.Requests.{negotiationReq, authenticationReq, proxyReq, request}
+use Rattle.protocol.specs.Requests.{negotiationReq, authenticationReq, proxyReq}
 use Rattle.protocol.specs.Opening.{Opening, v5, v4, noAuth, userPass, firstReply, Limits}
 use Rattle.sending.specs.declared.Lengths.{Lengths}
 use Rattle.sending.specs.declared.Requests.{Requests}
@@ -74,7 +73,7 @@ module _ (l : Lengths) (bs : List ℕ) (long : 778 ≤ length bs) where
         length-append (authenticationOf one) (proxyOf one),
         part-long bs 0 (negotiationSize l) (omega arith),
         part-long bs (negotiationSize l) (authenticationSize l) (omega arith),
-        part-long bs (negotiationSize l + authenticationSize l) (proxySize l) (omega arith)
+        part-long bs (negotiationSize l + authenticationSize l) (proxySize l) (omega arith),
       )
   first-count false = ap (λ (k : ℕ). k + (authenticationSize l + proxySize l)) (part-long bs 0 (negotiationSize l) (omega arith))
 
@@ -157,9 +156,9 @@ all-stored _ _ (more {o = o} {p = p} {os = os} {ps = ps} a r) w v hops bs cs =
     let x : bytesAt B n ≡ keptBy o .bytes = ap (λ (q : Requests). q .bytes) (requests-at o os w hops bs) in
     let y : bytesAt C n ≡ keptBy p .bytes = ap (λ (k : ℕ). bytesAt C k) (long-alike os ps r) ∙ ap (λ (q : Requests). q .bytes) (requests-at p ps v hops cs) in
     let k : Holds (hopAt H n .lengths) (hopAt H n .first) (bytesAt B n) (bytesAt C n) o
-        = subst (λ (j : Hop). Holds (j .lengths) (j .first) (bytesAt B n) (bytesAt C n) o) (sym h)
-        (subst (λ (d : List ℕ). Holds (keptBy o .lengths) (firstReply o) d (bytesAt C n) o) (sym x)
-        (subst (λ (d : List ℕ). Holds (keptBy o .lengths) (firstReply o) (keptBy o .bytes) d o) (sym y) (kept-holds o p a (w .0)))) in
+    = subst (λ (j : Hop). Holds (j .lengths) (j .first) (bytesAt B n) (bytesAt C n) o) (sym h)
+    (subst (λ (d : List ℕ). Holds (keptBy o .lengths) (firstReply o) d (bytesAt C n) o) (sym x)
+    (subst (λ (d : List ℕ). Holds (keptBy o .lengths) (firstReply o) (keptBy o .bytes) d o) (sym y) (kept-holds o p a (w .0)))) in
     let t : Stored H B C (o ∷ os) = (k, all-stored os ps r (w .1) (v .1) (hopFor o ∷ hops) (keptBy o .bytes ++ bs) (keptBy p .bytes ++ cs)) in
     subst (λ (d : List Hop). Stored d (bytesFor (o ∷ os) ++ bs) (bytesFor (p ∷ ps) ++ cs) (o ∷ os)) (sym (hops-row o os w hops bs))
     (subst (λ (d : List ℕ). Stored H d (bytesFor (p ∷ ps) ++ cs) (o ∷ os)) (sym (bytes-row o os w hops bs))

@@ -1,12 +1,11 @@
 -- F-6, of routes: two routes alike but for the bytes of users and passwords are concealed: opening them, and every row of calls.
-use Prim.Native.Nat.{ℕ, suc, _+_, _-_, _*_, _≤_}
+use Prim.Native.Nat.{ℕ, suc, _+_, _*_, _≤_}
 use native.Mathlib.Nat.{zero-add}
 use native.Mathlib.Omega.{arith}
 use mathlib.Core.Path.{_≡_, refl, ap, sym, _∙_, subst}
 use mathlib.Core.Bool.{Bool, true, false, _||_}
 use mathlib.Core.List.{List, [], _∷_, _++_, map}
 use lib.ListN.{length, take, drop, replicate, length-map}
-use lib.Seq.{take-append-seam}
 use lib.Dec.{ltb, eqb}
 use Rattle.protocol.specs.declared.Port.{Port}
 use Rattle.protocol.specs.declared.SocksError.{SocksError}
@@ -27,13 +26,13 @@ use Rattle.relaying.specs.declared.Hop.{Hop}
 use Rattle.relaying.specs.Relay.{noHop, bytesAt, requestsAt}
 use Rattle.planning.specs.Plan.{hopsFor, bytesFor}
 use Rattle.routing.specs.Route as routing
-use Rattle.routing.specs.Route.{Proxy, Asked, over5, hostOf, portOf, askedBy, askedOf, asked, openingFor, openings, roomFor, checkFor, unlessRefused, checkInTurn, check}
+use Rattle.routing.specs.Route.{Proxy, Asked, hostOf, portOf, askedBy, askedOf, asked, openingFor, openings, roomFor, checkFor, unlessRefused, checkInTurn, check}
 use Rattle.routing.proofs.Asked.{asked-each}
 use Rattle.routing.proofs.Checks.{accepted-has}
 use Rattle.routing.proofs.Rooms.{EachLimits, each-limits}
 use Rattle.route_calls.specs.declared.Route.{Route}
 use Rattle.route_calls.specs.Calls as calls
-use Rattle.route_calls.specs.Calls.{startedFor, begins, openBy, opening, sessionIn, behindIn, lastIn}
+use Rattle.route_calls.specs.Calls.{startedFor, begins, openBy, opening, behindIn, lastIn}
 use Rattle.route_opening.proofs.Kept.{requests-at, hops-row, bytes-row}
 use Rattle.secrets.specs.Places.{Agree}
 use Rattle.secrets.specs.Calls.{AlikeBut, Call, SameCalls}

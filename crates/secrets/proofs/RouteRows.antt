@@ -163,7 +163,7 @@ module _ (all : List Opening) (top : ℕ) (hops : List Hop) (bs cs : List ℕ) w
       let pl′ : (i : ℕ) → secretIn (p ∷ os) i → secretIn all (from + t + i) = λ i h. subst (λ (k : ℕ). secretIn all k) (sym (add-assoc from t i)) (pl (t + i) (place-next o (p ∷ os) i h)) in
       let z : x .session .stage ≡ Open → from + t ≡ from + m + length q = λ e. omega (arith, all-gone e) in
       let next = relay-like os p (from + t) (length gs) (begunAt hops bs n (x .session)) (st .1) pl′ (omega (arith, few)) refl refl
-          (record { agree = w .agree; long = w .long; stands = w .stands }) (w .left) (drop (x .used) piece) in
+      (record { agree = w .agree; long = w .long; stands = w .stands }) (w .left) (drop (x .used) piece) in
       let v = relayed hops cs n (begunAt hops cs n (y .session)) (drop (y .used) piece) in
       let v-is : relayed hops cs n (other (begunAt hops bs n (x .session)) (bytesAt cs n)) (drop (x .used) piece) ≡ v = λ i. relayed hops cs n (begunAt hops cs n (sym (c .session) i)) (drop (c .used i) piece) in
       let first : Agree (secretIn all) (from + t) gs (goesAt hops cs n) = agree-within (secretOf p) (secretIn all) 0 (from + t) (λ i h. pl′ i (place-here p os i (subst (λ (k : ℕ). secretOf p k) (omega arith) h))) (w .first) in
@@ -240,8 +240,8 @@ module _ (all : List Opening) (n : ℕ) (r : Route) (cs : List ℕ) (g : RouteGo
       let x = relayed (r .hops) (r .bytes) (behindIn r) (sessionIn r) piece in
       let y = relayed (r .hops) cs (behindIn r) (other (sessionIn r) (bytesAt cs (behindIn r))) piece in
       let c : Relays all (lastIn (r .count)) (r .hops) (r .bytes) cs n x y
-          = relays-on all (lastIn (r .count)) (r .hops) (r .bytes) cs n (behindIn r) (sessionIn r)
-          (subst (λ (k : ℕ). Standing all (lastIn (r .count)) (r .hops) (r .bytes) cs n k (sessionIn r)) (sym behind-is) (g .standing)) piece in
+      = relays-on all (lastIn (r .count)) (r .hops) (r .bytes) cs n (behindIn r) (sessionIn r)
+      (subst (λ (k : ℕ). Standing all (lastIn (r .count)) (r .hops) (r .bytes) cs n k (sessionIn r)) (sym behind-is) (g .standing)) piece in
       let z : n + length (x .sent) ≡ n + length (take (length (x .sent)) (x .sent ++ drop (length (x .sent)) out)) = ap (λ (q : List ℕ). n + length q) (sym (take-append-seam (x .sent) (drop (length (x .sent)) out))) in
       record {
         answer = refl;
