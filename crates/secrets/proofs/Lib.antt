@@ -1,0 +1,9 @@
+pub mod Bytes
+pub mod Talks
+pub mod Sessions
+pub mod Rows
+pub mod Prepared
+pub mod Counts
+pub mod RouteRows
+pub mod RouteKept
+pub mod RouteOpened
