@@ -19,6 +19,7 @@ mod proxy;
 mod route;
 mod rt;
 mod rust;
+mod secrets;
 mod shrink;
 mod speed;
 mod standin;
@@ -41,6 +42,7 @@ oracle proxy-self SEED COUNT                 the proxy's end: the original, as i
 oracle proxy-random SEED COUNT PROGRAM [--plant N]  and the program PROGRAM against both
 oracle proxy-list DIR                        writes the kept list of the proxy's end and its answers
 oracle proxy-answers                         what the model says of the cases of a proxy's end on standard input
+oracle secrets SEED COUNT REPLAY ROUTE [--plant N]  pairs of cases with other users and passwords: the programs' lines
 oracle one                                   what the original says of one case on standard input
 oracle call VERSION URI                      what its wrapper sends for a URI
 oracle load COUNT SEED [bytes]               the load of F-13 on the original
@@ -108,6 +110,12 @@ fn run(args: &[&str]) -> Result<bool, String> {
         }
         ["proxy-list", dir] => proxy::list::write(dir).map(|()| true),
         ["proxy-answers"] => answers(proxy::model::answers),
+        ["secrets", seed, count, replay, route] => {
+            Ok(secrets::random(number(seed)?, number(count)?, [replay, route], None))
+        }
+        ["secrets", seed, count, replay, route, "--plant", n] => {
+            Ok(secrets::random(number(seed)?, number(count)?, [replay, route], Some(number(n)?)))
+        }
         ["one"] => one(),
         ["call", version, uri] => call::call(version, uri).map(said),
         ["load", count, seed] => Ok(timed_load(number(count)?, number(seed)? as u32, false)),

@@ -7,4 +7,5 @@ mod generate;
 pub mod list;
 pub mod model;
 mod refusals;
+pub mod secrets;
 mod shrink;
