@@ -10,7 +10,6 @@ use Rattle.protocol.specs.declared.Outcome.{Outcome}
 use Rattle.protocol.specs.declared.Address.{Address}
 use Rattle.protocol.specs.Opening.{V5}
 use Rattle.session.specs.declared.Session.{Session}
-use Rattle.session.specs.declared.Prepared.{Prepared}
 use Rattle.session.specs.Session as session
 use Rattle.session.specs.Calls as calls
 use Rattle.session.specs.Calls.{prepare5}
