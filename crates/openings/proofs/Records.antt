@@ -19,7 +19,7 @@ use Rattle.protocol.specs.AddressReading.{Destination, ipv4, ipv6, domain, dest
 use Rattle.protocol.specs.Opening.{V5, V4, firstRecord, firstFour, refuse, isEmpty, isMissing, isName, isIpv6, isNone, isAnnouncing, check5, check4, Opening, v5, v4, Credentials, asked5, asked4, credentialsIf, portNumber, opening5, opening4}
 use Rattle.lookup.specs.declared.Lookup.{Lookup}
 use Rattle.lookup.specs.Chosen.{noneFound, chosenOf, recordsOf}
-use Rattle.lookup.proofs.Firsts.{first-chosen, four-chosen}
+use Rattle.lookup.proofs.Firsts.{first-chosen, first-alone, four-chosen}
 use Rattle.wanted.specs.Lookups.{looksUp}
 use Rattle.session.specs.declared.Prepared.{Prepared}
 use Rattle.session.specs.Calls.{preparedBy, prepare5, prepare4}
@@ -31,73 +31,72 @@ under : (b : Bool) (e : SocksError) (x x′ : Answer) (o o′ : Opening)
 under true e x x′ o o′ p = refl
 under false e x x′ o o′ p = p
 
-module _ (rs : List Record) (port : ℕ) where
+module _ (q rs : List Record) (port : ℕ) where
   -- the last two checks over v5, and what is asked
   abbrev ends5 : List Record → Bool → Bool → Destination → Credentials → Bool → Prepared
-  ends5 q l long d c o =
-      preparedBy (refuse (isName d && long) HostTooLong (refuse (l && (isName d && isNone (firstRecord q))) DnsFailure Accepted))
-      (v5 c (asked5 l q d) port o)
+  ends5 list l long d c o =
+      preparedBy (refuse (isName d && long) HostTooLong (refuse (l && (isName d && isNone (firstRecord list))) DnsFailure Accepted))
+      (v5 c (asked5 l list d) port o)
 
-  abbrev read5 : Bool → Bool → Destination → List Record
-  read5 l long d = recordsOf (chosenOf false noneFound (take (cond (l && (not long && isName d)) 1 0) rs))
-
-  last5 : (l long : Bool) (d : Destination) (c : Credentials) (o : Bool) → ends5 (read5 l long d) l long d c o ≡ ends5 rs l long d c o
-  last5 true long (ipv4 bs) c o = refl
-  last5 false long (ipv4 bs) c o = refl
-  last5 true long (ipv6 bs) c o = refl
-  last5 false long (ipv6 bs) c o = refl
-  last5 false long (domain s) c o = refl
-  last5 true true (domain s) c o = refl
-  last5 true false (domain s) c o = rw (first-chosen rs)
+  last5 : (l long : Bool) (d : Destination) (c : Credentials) (o : Bool) → (l && (not long && isName d) ≡ true → firstRecord q ≡ firstRecord rs)
+      → ends5 q l long d c o ≡ ends5 rs l long d c o
+  last5 true long (ipv4 bs) c o h = refl
+  last5 false long (ipv4 bs) c o h = refl
+  last5 true long (ipv6 bs) c o h = refl
+  last5 false long (ipv6 bs) c o h = refl
+  last5 false long (domain s) c o h = refl
+  last5 true true (domain s) c o h = refl
+  last5 true false (domain s) c o h = rw (h refl)
 
   -- the last three checks over v4, and what is asked
   abbrev ends4 : List Record → Bool → Bool → Destination → Prepared
-  ends4 q l long d =
-      preparedBy (refuse (isName d && long) HostTooLong (refuse (l && (isName d && isNone (firstFour q))) DnsFailure (refuse (isAnnouncing (asked4 l q d)) AnnouncesName Accepted)))
-      (v4 (asked4 l q d) port)
+  ends4 list l long d =
+      preparedBy (refuse (isName d && long) HostTooLong (refuse (l && (isName d && isNone (firstFour list))) DnsFailure (refuse (isAnnouncing (asked4 l list d)) AnnouncesName Accepted)))
+      (v4 (asked4 l list d) port)
 
-  abbrev read4 : Bool → Bool → Destination → List Record
-  read4 l long d = recordsOf (chosenOf true noneFound (take (cond (l && (not long && isName d)) 0xFFFFFFFFFFFFFFFF 0) rs))
+  last4 : (l long : Bool) (d : Destination) → (l && (not long && isName d) ≡ true → firstFour q ≡ firstFour rs) → ends4 q l long d ≡ ends4 rs l long d
+  last4 true long (ipv4 bs) h = refl
+  last4 false long (ipv4 bs) h = refl
+  last4 true long (ipv6 bs) h = refl
+  last4 false long (ipv6 bs) h = refl
+  last4 false long (domain s) h = refl
+  last4 true true (domain s) h = refl
+  last4 true false (domain s) h = rw (h refl)
 
-  last4 : length rs < 2 ^ 64 → (l long : Bool) (d : Destination) → ends4 (read4 l long d) l long d ≡ ends4 rs l long d
-  last4 h true long (ipv4 bs) = refl
-  last4 h false long (ipv4 bs) = refl
-  last4 h true long (ipv6 bs) = refl
-  last4 h false long (ipv6 bs) = refl
-  last4 h false long (domain s) = refl
-  last4 h true true (domain s) = refl
-  last4 h true false (domain s) = rw (take-all 0xFFFFFFFFFFFFFFFF rs (omega arith), four-chosen rs)
-
--- ---- preparing over a list
+-- ---- preparing over a list: of two lists that agree where a name is looked up
 
 module _ (config : SocksConfig) (host : List ℕ) (port : Port) (user password : List ℕ) (rs : List Record) where
   abbrev given5 : List Record → V5
   given5 q = record { config = config; host = host; port = port; user = user; password = password; records = q }
 
-  reads5 : prepare5 (given5 (recordsOf (chosenOf false noneFound (take (cond (looksUp (config .«local_dns») host 255) 1 0) rs)))) ≡ prepare5 (given5 rs)
+  pub by-first5 : (q : List Record) → (looksUp (config .«local_dns») host 255 ≡ true → firstRecord q ≡ firstRecord rs) → prepare5 (given5 q) ≡ prepare5 (given5 rs)
   unfolding prepare5 check5 opening5
-  reads5 =
+  by-first5 q h =
       under (isEmpty host || isEmpty (strip host)) MissingHost _ _ _ _
       (under (not (allAllowed (strip host))) HostByte _ _ _ _
       (under (isMissing port) MissingPort _ _ _ _
       (under (config .«proxy_auth» && (ltb 255 (length user) || ltb 255 (length password))) CredentialTooLong _ _ _ _
-      (last5 rs (portNumber port) (config .«local_dns») (ltb 255 (length (strip host))) (destinationOf (strip host)) (credentialsIf (config .«proxy_auth») user password) (config .optimistic)))))
+      (last5 q rs (portNumber port) (config .«local_dns») (ltb 255 (length (strip host))) (destinationOf (strip host)) (credentialsIf (config .«proxy_auth») user password) (config .optimistic) h))))
 
   pub by-list5 : (m : ℕ) (c : Lookup) → m ≡ cond (looksUp (config .«local_dns») host 255) 1 0 → c ≡ chosenOf false noneFound (take m rs) → prepare5 (given5 (recordsOf c)) ≡ prepare5 (given5 rs)
-  by-list5 m c em ec = ap (λ (l : Lookup). prepare5 (given5 (recordsOf l))) (ec ∙ ap (λ (k : ℕ). chosenOf false noneFound (take k rs)) em) ∙ reads5
+  by-list5 m c em ec = by-first5 (recordsOf c) (λ z.
+      let k : m ≡ 1 = em ∙ ap (λ (b : Bool). cond b 1 0) z in
+      ap (λ (l : Lookup). firstRecord (recordsOf l)) (ec ∙ ap (λ (n : ℕ). chosenOf false noneFound (take n rs)) k) ∙ first-chosen (take 1 rs) ∙ first-alone rs)
 
 module _ (localDns : Bool) (host : List ℕ) (port : Port) (rs : List Record) where
   abbrev given4 : List Record → V4
   given4 q = record { localDns = localDns; host = host; port = port; records = q }
 
-  reads4 : length rs < 2 ^ 64 → prepare4 (given4 (recordsOf (chosenOf true noneFound (take (cond (looksUp localDns host 1014) 0xFFFFFFFFFFFFFFFF 0) rs)))) ≡ prepare4 (given4 rs)
+  pub by-first4 : (q : List Record) → (looksUp localDns host 1014 ≡ true → firstFour q ≡ firstFour rs) → prepare4 (given4 q) ≡ prepare4 (given4 rs)
   unfolding prepare4 check4 opening4
-  reads4 h =
+  by-first4 q h =
       under (isEmpty host || isEmpty (strip host)) MissingHost _ _ _ _
       (under (not (allAllowed (strip host))) HostByte _ _ _ _
       (under (isMissing port) MissingPort _ _ _ _
       (under (isIpv6 (destinationOf (strip host))) IpV6 _ _ _ _
-      (last4 rs (portNumber port) h localDns (ltb 1014 (length (strip host))) (destinationOf (strip host))))))
+      (last4 q rs (portNumber port) localDns (ltb 1014 (length (strip host))) (destinationOf (strip host)) h))))
 
   pub by-list4 : (m : ℕ) (c : Lookup) → length rs < 2 ^ 64 → m ≡ cond (looksUp localDns host 1014) 0xFFFFFFFFFFFFFFFF 0 → c ≡ chosenOf true noneFound (take m rs) → prepare4 (given4 (recordsOf c)) ≡ prepare4 (given4 rs)
-  by-list4 m c h em ec = ap (λ (l : Lookup). prepare4 (given4 (recordsOf l))) (ec ∙ ap (λ (k : ℕ). chosenOf true noneFound (take k rs)) em) ∙ reads4 h
+  by-list4 m c h em ec = by-first4 (recordsOf c) (λ z.
+      let k : m ≡ 0xFFFFFFFFFFFFFFFF = em ∙ ap (λ (b : Bool). cond b 0xFFFFFFFFFFFFFFFF 0) z in
+      ap (λ (l : Lookup). firstFour (recordsOf l)) (ec ∙ ap (λ (n : ℕ). chosenOf true noneFound (take n rs)) k ∙ ap (chosenOf true noneFound) (take-all 0xFFFFFFFFFFFFFFFF rs (omega arith))) ∙ four-chosen rs)

@@ -1,0 +1,20 @@
+use Rattle.raw_calls.proofs.Laws.{says-outcome}
+use borrow.Author.Needs.{needs}
+use Rattle.raw_calls.proofs.outcome.Statement.{statement}
+use Rattle.raw_calls.proofs.outcome.Tie as tie
+
+session-of-requires : tie.Need-session-of-requires
+session-of-requires c κs = search needs
+
+outcome-requires : tie.Need-outcome-requires
+outcome-requires c κs = search needs
+
+outcome-of-requires : tie.Need-outcome-of-requires
+outcome-of-requires c κs = search needs
+
+returns : tie.Need-returns
+returns c = says-outcome (c .before .before .before .args .session) (c .before .before .session-of .ensures) (c .before .outcome .ensures) (c .outcome-of .ensures)
+
+pub outcome-spec : {M : Type 1} → statement M
+outcome-spec =
+    tie.close (tie.spec session-of-requires outcome-requires outcome-of-requires returns)

@@ -1,0 +1,15 @@
+use Rattle.raw_proxy.proofs.Laws.{record-as}
+use borrow.Author.Needs.{needs}
+use Rattle.raw_proxy.proofs.record_of.Statement.{statement}
+use Rattle.raw_proxy.proofs.record_of.Tie as tie
+
+-- src/proxy.rt:54:17
+family-of-requires : tie.Need-family-of-requires
+family-of-requires c κs = search needs
+
+-- src/proxy.rt:49:1
+returns : tie.Need-returns
+returns c = record-as (c .before .before .args .raw) (c .family-of .ensures)
+
+pub record-of-spec : {M : Type 1} → statement M
+record-of-spec = tie.close (tie.spec family-of-requires returns)

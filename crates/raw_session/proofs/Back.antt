@@ -1,0 +1,33 @@
+-- No session is lost in numbers: those of a session mean it.
+use mathlib.Core.Path.{_≡_, refl, sym, ap}
+use Rattle.protocol.specs.declared.AuthMethod.the-variants.{NoAuth, UserPass, NoneAcceptable}
+use Rattle.protocol.specs.declared.Reply.the-variants.{NegotiationRes, AuthenticationRes, ProxyRes, Response}
+use Rattle.protocol.specs.declared.SocksError.the-variants.{Settled}
+use Rattle.sending.specs.declared.Stage.{Stage}
+use Rattle.sending.specs.declared.Stage.the-variants.{Awaiting, Open, Failed}
+use Rattle.session.specs.declared.Session.{Session}
+use Rattle.raw_numbers.specs.Numbers.{errorOf, errorAmong}
+use Rattle.raw_numbers.proofs.Back.{bit-back, kind-back, error-back}
+use Rattle.raw_session.proofs.Laws.{requests-as, session-as}
+use Rattle.raw_session.specs.Raw.{stageOf, stageNumber, stageError, stageStatus, sessionOf, rawOf, zeros}
+
+pub stage-back : (s : Stage) → stageOf (stageNumber s) (stageError s) (stageStatus s) ≡ s
+unfolding stageOf
+stage-back (Awaiting (NegotiationRes NoAuth)) = refl
+stage-back (Awaiting (NegotiationRes UserPass)) = refl
+stage-back (Awaiting (NegotiationRes NoneAcceptable)) = refl
+stage-back (Awaiting AuthenticationRes) = refl
+stage-back (Awaiting ProxyRes) = refl
+stage-back (Awaiting Response) = refl
+stage-back Open = refl
+stage-back (Failed e) = ap Failed (error-back e)
+
+pub session-back : (s : Session) → sessionOf (rawOf s) ≡ s
+session-back s =
+    let requests = requests-as (rawOf s) (sym (bit-back (s .requests .lengths .optimistic))) in
+    sym (session-as (rawOf s) (sym (stage-back (s .stage))) (sym (kind-back (s .bound .kind))) (sym (bit-back (s .started))) requests)
+
+-- all zeros refuses everything: it was never opened
+pub zeros-mean : sessionOf zeros .stage ≡ Failed Settled
+unfolding stageOf errorOf errorAmong
+zeros-mean = refl

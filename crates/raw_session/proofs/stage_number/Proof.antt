@@ -1,0 +1,37 @@
+use mathlib.Core.Path.{refl}
+use borrow.Author.Needs.{needs}
+use Rattle.raw_session.proofs.stage_number.Statement.{statement}
+use Rattle.raw_session.proofs.stage_number.Tie as tie
+
+enum-known-stage : tie.Need-enum-known-stage
+enum-known-stage c = search needs
+
+reply-number-requires : tie.Need-reply-number-requires
+reply-number-requires c κs = search needs
+
+enum-told : tie.Need-enum-told
+enum-told c = search needs
+
+enum-known-stage-2 : tie.Need-enum-known-stage-2
+enum-known-stage-2 c = search needs
+
+returns : tie.Need-returns
+returns c = search needs
+
+returns-2 : tie.Need-returns-2
+returns-2 c = search needs
+
+returns-3 : tie.Need-returns-3
+returns-3 c = rw (c .before .stage2 .given .1) refl
+
+pub stage-number-spec : {M : Type 1} → statement M
+stage-number-spec =
+    tie.close
+    (tie.spec
+    enum-known-stage
+    reply-number-requires
+    enum-told
+    enum-known-stage-2
+    returns
+    returns-2
+    returns-3)

@@ -1,0 +1,131 @@
+-- A session as numbers and arrays: the session that numbers mean, and the numbers of a session. Every number has a meaning.
+use Prim.Native.Nat.{ℕ}
+use mathlib.Core.Bool.{cond}
+use lib.Dec.{eqb}
+use lib.ListN.{replicate}
+use Rattle.protocol.specs.declared.Answer.{Answer}
+use Rattle.protocol.specs.declared.AuthMethod.{AuthMethod}
+use Rattle.protocol.specs.declared.AuthMethod.the-variants.{NoAuth, UserPass, NoneAcceptable}
+use Rattle.protocol.specs.declared.Reply.{Reply}
+use Rattle.protocol.specs.declared.Reply.the-variants.{NegotiationRes, AuthenticationRes, ProxyRes, Response}
+use Rattle.protocol.specs.declared.Outcome.{Outcome}
+use Rattle.protocol.specs.declared.Outcome.the-variants as outcomes
+use Rattle.protocol.specs.Numbers.{number, status, answerNumber}
+use Rattle.sending.specs.declared.Stage.{Stage}
+use Rattle.sending.specs.declared.Stage.the-variants.{Awaiting, Open, Failed}
+use Rattle.sending.specs.declared.Requests.{Requests}
+use Rattle.session.specs.declared.Session.{Session}
+use Rattle.session.specs.Session.{outcome}
+use Rattle.raw_numbers.specs.Numbers.{truth, bit, kindOf, kindNumber, errorOf}
+use Rattle.raw_session.specs.declared.RawSession.{RawSession}
+use Rattle.raw_session.specs.declared.RawOutcome.{RawOutcome}
+use Rattle.raw_session.specs.declared.RawStep.{RawStep}
+
+-- ---- the session that numbers mean
+
+-- a number that no other stage has is failed, with the error of a number and a status
+unfoldable pub stageOf : ℕ → ℕ → ℕ → Stage
+stageOf n error status =
+    cond (eqb n 1) (Awaiting (NegotiationRes NoAuth))
+    (cond (eqb n 2) (Awaiting (NegotiationRes UserPass))
+    (cond (eqb n 3) (Awaiting (NegotiationRes NoneAcceptable))
+    (cond (eqb n 4) (Awaiting AuthenticationRes)
+    (cond (eqb n 5) (Awaiting ProxyRes) (cond (eqb n 6) (Awaiting Response) (cond (eqb n 7) Open (Failed (errorOf error status))))))))
+
+abbrev pub requestsOf : RawSession → Requests
+requestsOf r =
+    record {
+      lengths = record { optimistic = truth (r .optimistic); first = r .first; authentication = r .authentication; proxy = r .proxy };
+      bytes = r .requests;
+    }
+
+abbrev pub sessionOf : RawSession → Session
+sessionOf r =
+    record {
+      stage = stageOf (r .stage) (r .error) (r .status);
+      started = truth (r .started);
+      held = r .held;
+      hold = r .hold;
+      bound = record { kind = kindOf (r .kind); port = r .port };
+      attempts = r .attempts;
+      requests = requestsOf r;
+    }
+
+-- ---- the numbers of a session
+
+abbrev pub methodNumber : AuthMethod → ℕ
+methodNumber NoAuth = 1
+methodNumber UserPass = 2
+methodNumber NoneAcceptable = 3
+
+abbrev pub replyNumber : Reply → ℕ
+replyNumber (NegotiationRes m) = methodNumber m
+replyNumber AuthenticationRes = 4
+replyNumber ProxyRes = 5
+replyNumber Response = 6
+
+abbrev pub stageNumber : Stage → ℕ
+stageNumber (Awaiting e) = replyNumber e
+stageNumber Open = 7
+stageNumber (Failed x) = 0
+
+abbrev pub stageError : Stage → ℕ
+stageError (Awaiting e) = 0
+stageError Open = 0
+stageError (Failed x) = number x
+
+abbrev pub stageStatus : Stage → ℕ
+stageStatus (Awaiting e) = 0
+stageStatus Open = 0
+stageStatus (Failed x) = status x
+
+abbrev pub rawOf : Session → RawSession
+rawOf s =
+    record {
+      attempts = s .attempts;
+      held = s .held;
+      first = s .requests .lengths .first;
+      authentication = s .requests .lengths .authentication;
+      proxy = s .requests .lengths .proxy;
+      port = s .bound .port;
+      kind = kindNumber (s .bound .kind);
+      stage = stageNumber (s .stage);
+      error = stageError (s .stage);
+      status = stageStatus (s .stage);
+      started = bit (s .started);
+      optimistic = bit (s .requests .lengths .optimistic);
+      hold = s .hold;
+      requests = s .requests .bytes;
+    }
+
+-- all zeros
+abbrev pub zeros : RawSession
+zeros =
+    record {
+      attempts = 0;
+      held = 0;
+      first = 0;
+      authentication = 0;
+      proxy = 0;
+      port = 0;
+      kind = 0;
+      stage = 0;
+      error = 0;
+      status = 0;
+      started = 0;
+      optimistic = 0;
+      hold = replicate 261 0;
+      requests = replicate 1024 0;
+    }
+
+-- ---- how it stands: 0 waiting, 1 open, 2 failed with a number and a status
+
+abbrev pub outcomeOf : Outcome → RawOutcome
+outcomeOf outcomes.Waiting = record { state = 0; number = 0; status = 0 }
+outcomeOf outcomes.Open = record { state = 1; number = 0; status = 0 }
+outcomeOf (outcomes.Failed e) = record { state = 2; number = number e; status = status e }
+
+-- ---- what a call returns
+
+abbrev pub stepOf : Answer → Session → ℕ → ℕ → RawStep
+stepOf a s used sent = record { session = rawOf s; used = used; sent = sent; answer = answerNumber a; outcome = outcomeOf (outcome s) }
