@@ -32,7 +32,7 @@ use Rattle.proxy_calls.specs.declared.Server.{Server}
 use Rattle.proxy_calls.specs.declared.SetUp.{SetUp}
 use Rattle.proxy_calls.specs.Server.{credentialOf, textOf, setupOf, heldBytes, askedFor, view, packed, outcome, destination, fresh}
 use Rattle.proxy_calls.specs.Calls.{refusal, tooLong, setUp, takes, deliver, receiver}
-use Rattle.proxy.specs.Served.{setupFor, outcomeBy, targetBy, tunnelOf, joinedOf, Served, Serving}
+use Rattle.proxy.specs.Served.{setupFor, outcomeBy, targetBy, tunnelOf, joinedOf, Served, AllServed}
 use Rattle.proxy.specs.Turns.{SettingUp}
 use Rattle.proxy.proofs.Turns.{clash}
 use Rattle.talk.specs.Talk as talk
@@ -237,9 +237,9 @@ module _ (authenticates : Bool) (user password : List ℕ) where
   accepted true q ds = absurd (clash (sym q))
   accepted false q ds = served ds
 
-pub serving : Serving
+pub all-served : AllServed
 unfolding setUp
-serving authenticates user password q ds = accepted authenticates user password (tooLong authenticates user password) q ds
+all-served authenticates user password q ds = accepted authenticates user password (tooLong authenticates user password) q ds
 
 -- ---- the set-up's own number
 
