@@ -162,7 +162,7 @@ fn last_of(session: Session, ends: bool) -> Last
         session: last,
         end: End {
             ended: true,
-            answer: report::answer_number(answer),
+            answer: error_numbers::answer_number(answer),
         },
     }
 }
@@ -188,7 +188,7 @@ fn bound_of(session: Session, asks: bool, out: &mut [u8]) -> Bound
     let answer = written.answer;
     Bound {
         asked: true,
-        answer: report::answer_number(answer),
+        answer: error_numbers::answer_number(answer),
         len: written.len,
     }
 }

@@ -1,6 +1,7 @@
-// 01's number and status of a refusal or failure.
+// 01's number and status of a refusal or failure, and the number that an answer is told by.
 ghost use mathlib.Core.Path.{_≡_};
-ghost use Rattle.protocol.specs.Numbers.{number, status};
+ghost use Rattle.protocol.specs.Numbers.{number, status, answerNumber};
+use protocol::Answer;
 use protocol::SocksError;
 
 struct Numbers {
@@ -54,4 +55,13 @@ pub fn status(error: SocksError) -> u8
     ensures { λ r. ⌜ r ≡ status error ⌝ }
 {
     numbers_of(error).status
+}
+
+pub fn answer_number(answer: Answer) -> u8
+    ensures { λ r. ⌜ r ≡ answerNumber answer ⌝ }
+{
+    match answer {
+        Answer::Accepted => 0,
+        Answer::Refused(error) => number(error),
+    }
 }

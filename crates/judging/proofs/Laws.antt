@@ -1,12 +1,10 @@
 -- A field that is read and judged, and the talk: it goes on by what is due. The fields come to an end.
-use Prim.Native.Nat.{ℕ, _+_, _-_, _≤_, _<_}
-use native.Mathlib.Nat.{add-assoc}
+use Prim.Native.Nat.{ℕ, _-_, _≤_, _<_}
 use native.Mathlib.Omega.{arith}
-use mathlib.Core.Path.{_≡_, refl, sym, ap, _∙_}
+use mathlib.Core.Path.{_≡_, refl, ap, _∙_}
 use mathlib.Core.Bool.{Bool, true, false, cond, _&&_}
-use mathlib.Core.List.{List, [], _++_, append-assoc}
+use mathlib.Core.List.{List, []}
 use lib.ListN.{length, take, drop}
-use lib.Seq.{drop-drop}
 use lib.Dec.{eqb}
 use Rattle.protocol.specs.declared.SocksError.{SocksError}
 use Rattle.protocol.specs.declared.Version.{Version}
@@ -24,7 +22,7 @@ use Rattle.serving.specs.Side.{EndTalk, isKnown, ipOf, atUser, atHead, unlessOt
 use Rattle.judging.specs.declared.Due.{Due}
 use Rattle.judging.specs.Due.{behindGreeting, dueRequest, dueAt, asksAt, sessionAt, talkFrom, dueTalk, rank}
 use Rattle.talk.specs.Decision.{undecided, decided, good, bad}
-use Rattle.talk.specs.Talk.{failed, stop, send, await, waiting, ended, Fed, FedOf, unmoved, sending, moving, deciding, feed}
+use Rattle.talk.specs.Talk.{failed, stop, send, await, waiting, ended, unmoved, sending, moving, deciding, feed}
 
 -- ---- what is due behind a field is what its talk goes on with
 
@@ -106,38 +104,6 @@ module _ (c : Setup) where
   feed-over (Open v) x bs o = refl
   feed-over (Failed e) x bs o = refl
 
--- ---- at a place, with bytes sent before
-
-onto : {S R E : Type 0} (q r : List ℕ) (a n : ℕ) (x : Fed S R E) → sending q (moving a (moving n (sending r x))) ≡ sending (q ++ r) (moving (a + n) x)
-onto q r a n x = λ i. record { session = x .session; sent = sym (append-assoc q r (x .sent)) i; place = sym (add-assoc a n (x .place)) i }
-
-module _ (c : Setup) (f : Field) (bs sent : List ℕ) (at : ℕ) where
-  abbrev pub Here : FedOf (server c)
-  Here = sending sent (moving at (feed (server c) (talkAt c f) (drop at bs)))
-
-  pub waits-here : reads f (drop at bs) ≡ undecided → Here ≡ sending sent (moving at (unmoved (waiting f (drop at bs))))
-  waits-here e = ap (λ x. sending sent (moving at x)) (feed-undecided c f (drop at bs) e)
-
-  module _ (n : ℕ) where
-    pub fails-here : (x : SocksError) → reads f (drop at bs) ≡ decided n (bad x) → Here ≡ sending sent (moving (at + n) (unmoved (ended (failed x))))
-    fails-here x e = ap (λ x. sending sent (moving at x)) (feed-bad c f (drop at bs) n x e) ∙ rw (add-assoc at n 0)
-
-    -- what is due behind the field, and what it asks for
-    abbrev pub due : Due
-    due = dueAt c f (take n (drop at bs))
-
-    abbrev pub target : Endpoint
-    target = asksAt f (take n (drop at bs))
-
-    pub goes-here : reads f (drop at bs) ≡ decided n good
-        → Here ≡ sending (sent ++ saidBy (due .says)) (moving (at + n) (feed (server c) (talkFrom c (due .stage) target) (drop (at + n) bs)))
-    goes-here e =
-        let d = feed-due c due target (drop n (drop at bs)) in
-        let g : drop n (drop at bs) ≡ drop (at + n) bs = drop-drop n at bs in
-        ap (λ x. sending sent (moving at x)) (talk-due c f (drop at bs) n e ∙ ap (moving n) d)
-        ∙ onto sent (saidBy (due .says)) at n (feed (server c) (talkFrom c (due .stage) target) (drop n (drop at bs)))
-        ∙ ap (λ (r : List ℕ). sending (sent ++ saidBy (due .says)) (moving (at + n) (feed (server c) (talkFrom c (due .stage) target) r))) g
-
 -- ---- the fields come to an end, and none opens
 
 abbrev rankOf : Stage → ℕ
@@ -178,41 +144,3 @@ module _ (c : Setup) where
 
   pub never-open : (f : Field) (m : List ℕ) (v : Version) → dueAt c f m .stage ≡ Open v → ⊥
   never-open f m v e = let h = rw e at (falls f m) in let k = rank-bounds f in absurd (omega arith)
-
--- ---- how many bytes may still be said, from a field and at a stage
-
-abbrev pub saidFrom : Field → ℕ
-saidFrom First = 14
-saidFrom Methods = 14
-saidFrom User = 12
-saidFrom (Password right) = 12
-saidFrom Head = 10
-saidFrom (Address command type) = 10
-saidFrom Request = 8
-saidFrom (UserId p) = 8
-saidFrom (Name p) = 8
-
-abbrev pub saidAt : Stage → ℕ
-saidAt (Awaiting f) = saidFrom f
-saidAt (Asked v) = 0
-saidAt (Open v) = 0
-saidAt (Failed e) = 0
-
-abbrev saidBehind : Due → ℕ
-saidBehind d = length (saidBy (d .says)) + saidAt (d .stage)
-
-module _ (c : Setup) where
-  said-request : (command : ℕ) → saidBehind (dueRequest (c .authenticates) command) ≤ 8
-  said-request command = either (c .authenticates) (λ e. rw e (omega arith)) (λ e. either (eqb command 1) (λ g. rw (e, g) (omega arith)) (λ g. rw (e, g) (omega arith)))
-
-  pub said-falls : (f : Field) (m : List ℕ) → length (saidBy (dueAt c f m .says)) + saidAt (dueAt c f m .stage) ≤ saidFrom f
-  unfolding dueAt
-  said-falls First m = either (eqb (byte m 0) 0x05) (λ e. rw e (omega arith)) (λ e. rw e (omega arith))
-  said-falls Methods m = either (offers (chosen (c .authenticates)) (drop 1 m)) (λ e. rw e (either (c .authenticates) (λ g. rw g (omega arith)) (λ g. rw g (omega arith)))) (λ e. rw e (omega arith))
-  said-falls User m = omega arith
-  said-falls (Password right) m = either (right && same (drop 1 m) (c .password)) (λ e. rw e (omega arith)) (λ e. rw e (omega arith))
-  said-falls Head m = either (isKnown (byte m 3)) (λ e. rw e (omega arith)) (λ e. rw e (omega arith))
-  said-falls (Address command type) m = either (eqb command 1) (λ e. rw e (omega arith)) (λ e. rw e (omega arith))
-  said-falls Request m = omega arith
-  said-falls (UserId p) m = either (announces (ipOf p)) (λ e. rw e (omega arith)) (λ e. rw e (said-request (p .command)))
-  said-falls (Name p) m = said-request (p .command)

@@ -26,7 +26,7 @@ use Rattle.proxy_calls.specs.declared.Server.{Server}
 use Rattle.proxy_calls.specs.Server.{outcome}
 use Rattle.proxy.specs.Served as served
 use Rattle.proxy.specs.Served.{outcomeBy, targetBy, Served}
-use Rattle.proxy.proofs.Tunnels.{serving}
+use Rattle.proxy.proofs.Tunnels.{all-served}
 use Rattle.proxy.proofs.Turns.{isAsked}
 use Rattle.proxy.proofs.Answered.{asked-stage, answering, answer-opens, answer-keeps, answer-unsent}
 use Rattle.talk.specs.Tunnel.{Delivery}
@@ -114,7 +114,7 @@ module _ (o : Opening) (s : Session) (sent : List ℕ) (ds : List Delivery) (d :
 meets : (p : Prepared) (o : Opening) → Tunnelled p o → (p .answer ≡ Accepted → Sendable o) → Meets p o
 meets p o r z first a b authenticates user password f n ds es yd x h out tail tail′ l k =
     let d = r first a b ds yd in
-    let g = serving authenticates user password f es in
+    let g = all-served authenticates user password f es in
     let q = arrived o _ _ ds d _ _ es g x out tail tail′ l k in
     meeting o _ _ ds d _ _ es g x out tail tail′ l k (met o _ x (z a) n h _ _ tail tail′ q)
 

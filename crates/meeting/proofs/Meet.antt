@@ -13,7 +13,7 @@ use Rattle.protocol.specs.Grammar.{method-00, method-02}
 use Rattle.protocol.specs.Machine as client
 use Rattle.serving.specs.End.{Setup, End, methodReply, loginReply, machine, used, usedBy}
 use Rattle.talk.specs.Lawful.{Begins}
-use Rattle.meeting.specs.Ends.{Sendable, Agree, Given, answerTo, allSent, allRequests, Arrived, Met}
+use Rattle.meeting.specs.Ends.{Sendable, SameCredentials, Given, answerTo, allSent, allRequests, Arrived, Met}
 use Rattle.meeting.proofs.Begins.{begins-then}
 use Rattle.meeting.proofs.Requests.{greeted, signs, connecting-sends, signing-sends, asks-all}
 use Rattle.meeting.proofs.Replies.{heard-sends, first-sent, heard-first, heard-login, answered, opens-all}
@@ -38,7 +38,7 @@ module _ (o : Opening) (c : Setup) (x : Endpoint) (toClient toEnd tail tail′ :
       to-end q′ (rw h (g s))
 
   -- all requests are there
-  meets : Sendable o → Agree o c → Given x → Begins (allRequests o) toEnd → Met o c x toClient toEnd
+  meets : Sendable o → SameCredentials o c → Given x → Begins (allRequests o) toEnd → Met o c x toClient toEnd
   unfolding used client.used
   meets z g h (r, e) =
       let m = ap (machine c) e ∙ asks-all o c z g r in
@@ -54,7 +54,7 @@ module _ (o : Opening) (c : Setup) (x : Endpoint) (toClient toEnd tail tail′ :
       }
 
 -- over v5: a round, and with credentials two
-all-there : (o : Opening) (c : Setup) (x : Endpoint) → Agree o c → (toClient toEnd tail tail′ : List ℕ) → Arrived o c x toClient toEnd tail tail′ → Begins (allRequests o) toEnd
+all-there : (o : Opening) (c : Setup) (x : Endpoint) → SameCredentials o c → (toClient toEnd tail tail′ : List ℕ) → Arrived o c x toClient toEnd tail tail′ → Begins (allRequests o) toEnd
 unfolding negotiationReq
 all-there (v5 noAuth d port b) c x g toClient toEnd tail tail′ a =
     let o = v5 noAuth d port b in
@@ -75,12 +75,12 @@ all-there (v5 (userPass u p) d port b) c x (g, (e, f)) toClient toEnd tail tail�
     (first o c x toClient toEnd tail tail′ a))
 all-there (v4 d port) c x g toClient toEnd tail tail′ a = first (v4 d port) c x toClient toEnd tail tail′ a
 
-pub met : (o : Opening) (c : Setup) (x : Endpoint) → Sendable o → Agree o c → Given x
+pub met : (o : Opening) (c : Setup) (x : Endpoint) → Sendable o → SameCredentials o c → Given x
     → (toClient toEnd tail tail′ : List ℕ) → Arrived o c x toClient toEnd tail tail′ → Met o c x toClient toEnd
 met o c x z g h toClient toEnd tail tail′ a = meets o c x toClient toEnd tail tail′ a z g h (all-there o c x g toClient toEnd tail tail′ a)
 
 -- and there are such bytes: all requests and all replies
-pub arrived : (o : Opening) (c : Setup) (x : Endpoint) → Sendable o → Agree o c → Given x
+pub arrived : (o : Opening) (c : Setup) (x : Endpoint) → Sendable o → SameCredentials o c → Given x
     → (tail tail′ : List ℕ) → Arrived o c x (answered o x ++ tail) (allRequests o ++ tail′) tail tail′
 arrived o c x z g h tail tail′ =
     record {

@@ -42,10 +42,10 @@ Sendable (v5 c d port o) = Sized d
 Sendable (v4 d port) = Sized4 d
 
 -- equal credentials, none over v4
-abbrev pub Agree : Opening → Setup → Type 0
-Agree (v5 noAuth d port o) c = c .authenticates ≡ false
-Agree (v5 (userPass u p) d port o) c = (c .authenticates ≡ true) × ((c .user ≡ u) × (c .password ≡ p))
-Agree (v4 d port) c = c .authenticates ≡ false
+abbrev pub SameCredentials : Opening → Setup → Type 0
+SameCredentials (v5 noAuth d port o) c = c .authenticates ≡ false
+SameCredentials (v5 (userPass u p) d port o) c = (c .authenticates ≡ true) × ((c .user ≡ u) × (c .password ≡ p))
+SameCredentials (v4 d port) c = c .authenticates ≡ false
 
 -- the bound address that the caller gives, and what the client sees of it: over v4 an IPv6 one as 0.0.0.0 with its port
 abbrev pub Given : Endpoint → Type 0

@@ -22,7 +22,7 @@ use Rattle.proxy_calls.specs.Server as server
 use Rattle.proxy_calls.specs.Calls.{Call, setUp, answer}
 use Rattle.proxy.specs.Served as served
 use Rattle.proxy.specs.Served.{setupFor}
-use Rattle.meeting.specs.Ends.{versionOf, wantedBy, Agree, Given, seenOf}
+use Rattle.meeting.specs.Ends.{versionOf, wantedBy, SameCredentials, Given, seenOf}
 use Rattle.talk.specs.Tunnel.{Delivery}
 
 -- the end, and the caller's answer to it behind its deliveries: refused, and nothing sent, unless it is awaited
@@ -54,7 +54,7 @@ pub record Meeting (o : Opening) (s : Session) (sent : List ℕ) (ds : List Deli
 abbrev pub Meets : Prepared → Opening → Type 0
 Meets p o =
     (first : List ℕ) → p .answer ≡ Accepted → start (p .session) first .answer ≡ Accepted
-    → (authenticates : Bool) (user password : List ℕ) → setUp authenticates user password .answer ≡ Accepted → Agree o (setupFor authenticates user password)
+    → (authenticates : Bool) (user password : List ℕ) → setUp authenticates user password .answer ≡ Accepted → SameCredentials o (setupFor authenticates user password)
     → (ds es : List Delivery) → BytePieces ds
     → (x : Endpoint) → Given x → (out tail tail′ : List ℕ) → 262 ≤ length out
     → (let s = start (p .session) first .session in

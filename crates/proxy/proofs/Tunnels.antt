@@ -2,16 +2,20 @@
 use Prim.Native.Nat.{ℕ}
 use native.Mathlib.Omega.{arith}
 use mathlib.Core.Path.{_≡_, refl, ap, sym, subst, _∙_}
-use mathlib.Core.Bool.{Bool, true, false, cond}
+use mathlib.Core.Logic.{_↔_, _⊎_, inl, inr}
+use mathlib.Core.Bool.{Bool, true, false, true≢false, cond, _&&_, _||_}
 use mathlib.Core.List.{List, [], _∷_, _++_}
 use lib.ListN.{length, take, drop}
 use lib.Seq.{take-append-seam}
-use lib.Dec.{leb}
+use lib.Dec.{leb, ltb, lit<}
 use Rattle.protocol.specs.declared.Answer.the-variants.{Accepted, Refused}
+use Rattle.protocol.specs.declared.SocksError.{SocksError}
 use Rattle.protocol.specs.declared.SocksError.the-variants.{ShortOutput, CredentialTooLong, Settled}
 use Rattle.protocol.specs.AddressReading.{Destination, ipv4, ipv6, domain}
 use Rattle.protocol.specs.Requests.{kindOf}
 use Rattle.protocol.specs.Bound.{Endpoint, endpoint, kindIn, bytesIn, unbound}
+use Rattle.protocol.specs.Opening.{refuse}
+use Rattle.protocol.proofs.Openings.{all-passed, checked, less-just}
 use Rattle.serving.specs.declared.Field.the-variants.{First}
 use Rattle.serving.specs.declared.Stage.{Stage}
 use Rattle.serving.specs.declared.Stage.the-variants as stage
@@ -21,13 +25,15 @@ use Rattle.serving.proofs.Side.{server-lawful}
 use Rattle.serving.proofs.Feed.{sent-feed, standing-feed, used-feed}
 use Rattle.judging.specs.Due.{sessionAt}
 use Rattle.destinations.specs.Last.{targetAs}
+use Rattle.serving_stages.specs.declared.Outcome.the-variants as told
 use Rattle.serving_stages.specs.Told.{outcomeAt, hasDestination}
 use Rattle.serving_pieces.specs.Pieces.{stageOf}
 use Rattle.proxy_calls.specs.declared.Server.{Server}
 use Rattle.proxy_calls.specs.declared.SetUp.{SetUp}
 use Rattle.proxy_calls.specs.Server.{credentialOf, textOf, setupOf, heldBytes, askedFor, view, packed, outcome, destination, fresh}
 use Rattle.proxy_calls.specs.Calls.{refusal, tooLong, setUp, takes, deliver, receiver}
-use Rattle.proxy.specs.Served.{setupFor, outcomeBy, targetBy, tunnelOf, joinedOf, Served, Serving}
+use Rattle.proxy.specs.Served.{setupFor, outcomeBy, targetBy, tunnelOf, joinedOf, Served, AllServed}
+use Rattle.proxy.specs.Turns.{SettingUp}
 use Rattle.proxy.proofs.Turns.{clash}
 use Rattle.talk.specs.Talk as talk
 use Rattle.talk.specs.Tunnel as side
@@ -215,10 +221,44 @@ module _ (authenticates : Bool) (user password : List ℕ) where
       cond b (record { answer = Refused CredentialTooLong; server = fresh (stage.Failed CredentialTooLong) false (credentialOf []) (credentialOf []) })
       (record { answer = Accepted; server = new })
 
+  answered : (b : Bool) → set-up b .answer ≡ refuse b CredentialTooLong Accepted
+  answered true = refl
+  answered false = refl
+
+  refused : (b : Bool) (e : SocksError) → set-up b .answer ≡ Refused e → outcome (set-up b .server) ≡ told.Failed CredentialTooLong
+  refused true e q = refl
+  refused false e q = absurd (clash q)
+
+  waits : (b : Bool) → set-up b .answer ≡ Accepted → outcome (set-up b .server) ≡ told.Waiting
+  waits true q = absurd (clash (sym q))
+  waits false q = refl
+
   accepted : (b : Bool) → set-up b .answer ≡ Accepted → (ds : List Delivery) → Served asked-for (set-up b .server) ds
   accepted true q ds = absurd (clash (sym q))
   accepted false q ds = served ds
 
-pub serving : Serving
+pub all-served : AllServed
 unfolding setUp
-serving authenticates user password q ds = accepted authenticates user password (tooLong authenticates user password) q ds
+all-served authenticates user password q ds = accepted authenticates user password (tooLong authenticates user password) q ds
+
+-- ---- the set-up's own number
+
+long-just : (a b c : Bool) {P Q : Type 0} → b ≡ true ↔ P → c ≡ true ↔ Q → (a && (b || c)) ≡ true ↔ ((a ≡ true) × (P ⊎ Q))
+long-just false b c p q = (λ r. absurd (true≢false (sym r)), λ (r, _). r)
+long-just true true c p q = (λ r. (refl, inl (p .0 refl)), λ r. refl)
+long-just true false c {P} {Q} p q = (λ r. (refl, inr (q .0 r)), λ (_, h). back h)
+  where
+    back : P ⊎ Q → c ≡ true
+    back (inl h) = absurd (true≢false (sym (p .1 h)))
+    back (inr h) = q .1 h
+
+pub setting-up : (authenticates : Bool) (user password : List ℕ) → SettingUp authenticates user password
+unfolding setUp
+setting-up a user password =
+    let b = tooLong a user password in
+    record {
+      number = rw (answered a user password b)
+          (checked b _ CredentialTooLong 5 Accepted [] refl (lit< tt) (long-just a (ltb 255 (length user)) (ltb 255 (length password)) (less-just 255 (length user)) (less-just 255 (length password))) all-passed);
+      refused = refused a user password b;
+      accepted = waits a user password b;
+    }

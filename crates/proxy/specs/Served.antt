@@ -62,6 +62,6 @@ pub record Served (c : Setup) (s : Server) (ds : List Delivery) : Type 0 where
   pub alike : (ds′ : List Delivery) → joinedOf ds′ ≡ joinedOf ds → Alike (tunnelOf s ds′) (tunnelOf s ds)
 
 -- for every set-up that is accepted, and every list of deliveries to what it returned
-abbrev pub Serving : Type 0
-Serving = (authenticates : Bool) (user password : List ℕ) → setUp authenticates user password .answer ≡ Accepted → (ds : List Delivery)
+abbrev pub AllServed : Type 0
+AllServed = (authenticates : Bool) (user password : List ℕ) → setUp authenticates user password .answer ≡ Accepted → (ds : List Delivery)
     → Served (setupFor authenticates user password) (setUp authenticates user password .server) ds

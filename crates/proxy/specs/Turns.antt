@@ -1,11 +1,13 @@
--- F-3: which call is in turn. Of any end, set up or not: 16 for a call out of turn, then 1 for output under 262, and a refused call touches nothing.
+-- F-3's checks: 5 at its set-up; of any end, set up or not, 16 for a call out of turn, then 1 for output under 262, and a refused call touches nothing.
 use Prim.Native.Nat.{ℕ, _<_}
 use mathlib.Core.Path.{_≡_}
+use mathlib.Core.Logic.{_⊎_}
+use mathlib.Core.Bool.{Bool, true}
 use mathlib.Core.List.{List, [], _∷_}
 use lib.ListN.{length, take}
 use Rattle.protocol.specs.declared.Answer.the-variants.{Accepted, Refused}
 use Rattle.protocol.specs.declared.SocksError.{SocksError}
-use Rattle.protocol.specs.declared.SocksError.the-variants.{UnexpectedEof}
+use Rattle.protocol.specs.declared.SocksError.the-variants.{CredentialTooLong, UnexpectedEof}
 use Rattle.protocol.specs.declared.Version.{Version}
 use Rattle.protocol.specs.Numbers.{answerNumber}
 use Rattle.protocol.specs.Bound.{Endpoint}
@@ -14,7 +16,13 @@ use Rattle.serving.specs.End.{replyTo, stageAfter}
 use Rattle.serving_stages.specs.declared.Outcome.the-variants.{Waiting, Asked, Failed}
 use Rattle.proxy_calls.specs.declared.Server.{Server}
 use Rattle.proxy_calls.specs.Server.{outcome, atStage}
-use Rattle.proxy_calls.specs.Calls.{Call, refusal, deliver, answer, end}
+use Rattle.proxy_calls.specs.Calls.{Call, refusal, setUp, deliver, answer, end}
+
+-- set-up, with any arguments: 5 as in an opening, and no other number; a refused one comes back failed with it, an accepted one waits
+pub record SettingUp (authenticates : Bool) (user password : List ℕ) : Type 0 where
+  pub number : Answers (answerNumber (setUp authenticates user password .answer)) ((((authenticates ≡ true) × ((255 < length user) ⊎ (255 < length password))) ↣ 5) ∷ [])
+  pub refused : (e : SocksError) → setUp authenticates user password .answer ≡ Refused e → outcome (setUp authenticates user password .server) ≡ Failed CredentialTooLong
+  pub accepted : setUp authenticates user password .answer ≡ Accepted → outcome (setUp authenticates user password .server) ≡ Waiting
 
 -- a refused call answers with its number, and uses, sends and changes nothing
 abbrev pub Untouched : Call → Server → List ℕ → Type 0

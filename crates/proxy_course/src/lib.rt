@@ -193,7 +193,7 @@ fn last_of(server: Server, ends: bool) -> Last
         outcome: last.outcome(),
         end: End {
             ended: true,
-            answer: report::answer_number(answer),
+            answer: error_numbers::answer_number(answer),
         },
     }
 }

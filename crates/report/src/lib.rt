@@ -5,7 +5,6 @@ ghost use Rattle.numerals.specs.Added.{Adds};
 ghost use Rattle.report.specs.Text.{resultsText, answersText, boundText, attemptsText, asked, closeText, noticeText};
 use numerals::put_decimal;
 pub use report_fields::State;
-pub use report_fields::answer_number;
 pub use report_fields::put_bytes;
 use report_fields::put_end;
 use report_fields::put_field;

@@ -4,11 +4,9 @@ ghost use Prim.Native.Nat.{_+_, _*_, _≤_};
 ghost use lib.ListN.{length};
 ghost use Rattle.numerals.specs.Added.{Adds};
 ghost use Rattle.numerals.specs.Digits.{decimalOf};
-ghost use Rattle.protocol.specs.Numbers.{answerNumber};
 ghost use Rattle.report_fields.specs.Fields.{fieldOf, numberText, stateOf, outcomeText, statusOf, stateText, sentText, moreText, numbersText, endText};
 use numerals::put_decimal;
 use numerals::put_hex;
-use protocol::Answer;
 use protocol::Outcome;
 use protocol::SocksError;
 
@@ -58,15 +56,6 @@ pub fn put_number(n: u64, text: &mut [u8], at: usize) -> usize
     let end = put_decimal(n, text, at);
     text[end] = b' ';
     end + 1
-}
-
-pub fn answer_number(answer: Answer) -> u8
-    ensures { λ r. ⌜ r ≡ answerNumber answer ⌝ }
-{
-    match answer {
-        Answer::Accepted => 0,
-        Answer::Refused(error) => error_numbers::number(error),
-    }
 }
 
 // How a session stands, or the proxy's end, which is asked while it awaits its caller's answer.

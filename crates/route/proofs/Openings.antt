@@ -32,7 +32,7 @@ use Rattle.route_calls.specs.Calls.{Call, behindIn, roomIn, sessionIn, startedF
 use Rattle.route.specs.Routed.{tunnelOf, attemptsInTurn, lending, Routed, Through}
 use Rattle.route.proofs.Refusals.{opened-some, opened-eight, opened-limits}
 use Rattle.route.proofs.Relays.{waits-open, keptAt, hopOn, aheadOf, standsAt}
-use Rattle.route.proofs.Tunnels.{Stands, Begun, Followed, followed, routed-with}
+use Rattle.route.proofs.Tunnels.{Stands, Begun, routed-with}
 use Rattle.route_opening.proofs.Kept.{hop-at, requests-at, hops-row, bytes-row}
 use Rattle.talk.specs.Talk.{waiting, feed}
 use Rattle.talk.specs.Tunnel.{Delivery}
@@ -130,10 +130,6 @@ module _ (a : routing.Route) (out : List ℕ) (q : opening a out .answer ≡ Acc
       let w = opened-as in
       subst (λ (os : List Opening). Begun os (opening a out .session) (take (opening a out .sent) (opening a out .output))) (sym (w .are))
       (subst (λ (c : Call). Begun (w .first ∷ w .later) (c .session) (take (c .sent) (c .output))) (sym (w .is)) (started-begun (w .first) (w .later) (w .limits) (w .few) out))
-
-  -- and after any deliveries for these fed with the joined bytes
-  pub opened-followed : (ds : List Delivery) → Followed (openings a) (opening a out .session) (take (opening a out .sent) (opening a out .output)) ds
-  opened-followed ds = followed (openings a) _ _ opened-begun ds
 
 -- ---- the promise
 

@@ -91,9 +91,6 @@ module _ (a : routing.Route) (out : List ℕ) (q : opening a out .answer ≡ Acc
   pub opened-limits : EachLimits (openings a)
   opened-limits = each-limits (a .proxies) (a .host) (a .port) (acceptable .each)
 
-  pub opened-room : roomFor (length (openings a)) ≤ length out
-  opened-room = rw (openings-each a) (acceptable .room)
-
   pub opened-asks : roomIn (opening a out .session) ≡ roomFor (length (openings a))
   unfolding opening
   opened-asks = by-room (check a (length out)) (openings a) out q opened-eight

@@ -30,9 +30,6 @@ use Rattle.route_calls.specs.declared.Taken.{Taken}
 use Rattle.route_calls.specs.Taking.{routeAt, deliveredAt}
 use Rattle.route_calls.specs.Calls.{Call, refusal, lastIn, behindIn, roomIn, sessionIn, withSession, isOver, moves, takes, deliver, delivered, Delivers, end, endedBy}
 
-pub none-behind : (count : ℕ) → count ≡ 0 → 0 ≡ lastIn count
-none-behind count q = rw q
-
 -- ---- what is written from the output's start
 
 pub written : {out out′ bs : List ℕ} {n : ℕ} → Wrote out 0 bs n out′ → (n ≡ length bs) × (out′ ≡ bs ++ drop (length bs) out)

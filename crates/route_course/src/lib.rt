@@ -116,7 +116,7 @@ fn last_of(route: Route, ends: bool) -> Last
         route: last,
         end: End {
             ended: true,
-            answer: report::answer_number(answer),
+            answer: error_numbers::answer_number(answer),
         },
     }
 }

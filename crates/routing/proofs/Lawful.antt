@@ -1,7 +1,6 @@
 -- The route's side is lawful. Fed, the proxy that is spoken to takes what it uses, and what it leaves goes to the next.
 use Prim.Native.Nat.{ℕ}
 use mathlib.Core.Path.{_≡_, refl, _∙_}
-use mathlib.Core.Logic.{_↔_}
 use mathlib.Core.Bool.{true, false}
 use mathlib.Core.List.{List, [], _∷_, _++_, append-assoc}
 use lib.ListN.{length, drop}
@@ -16,7 +15,7 @@ use Rattle.protocol.specs.Client.{Kept, ClientTalk, talkAt, client, kept, begun
 use Rattle.protocol.proofs.Client.{client-lawful}
 use Rattle.routing.specs.Hops.{Hop, hopOf, hopTalk, RouteStage, at, onThrough, routeReads, routeAt, routeSide}
 use Rattle.talk.specs.Talk.{done, send, ended, unmoved, sending, feed}
-use Rattle.talk.specs.Lawful.{Extends, Shaped, Lawful, Accepts}
+use Rattle.talk.specs.Lawful.{Extends, Shaped, Lawful}
 use Rattle.talk.specs.Graft.{graft, thenOn}
 use Rattle.talk.proofs.Feed.{same-fed}
 use Rattle.talk.proofs.Graft as row
@@ -90,10 +89,3 @@ hop-feed (v5 (userPass u p) d port true) bs =
     two-feed c (negotiationReq UserPass ++ authenticationReq u p) (proxyReq d port) (talkAt c (NegotiationRes UserPass)) bs
     ∙ two-feed c (negotiationReq UserPass) (authenticationReq u p) (send (proxyReq d port) (talkAt c (NegotiationRes UserPass))) bs
 hop-feed (v4 d port) bs = refl
-
-pub hop-accepts : (o : Opening) (p : List ℕ) (x : Endpoint) → Accepts (side o) (hopTalk (hopOf o)) p x ↔ Accepts (side o) (begun o) p x
-hop-accepts (v5 noAuth d port false) p x = (λ a. a, λ a. a)
-hop-accepts (v5 noAuth d port true) p x = (λ a. a, λ a. a)
-hop-accepts (v5 (userPass u w) d port false) p x = (λ a. a, λ a. a)
-hop-accepts (v5 (userPass u w) d port true) p x = (λ a. a, λ a. a)
-hop-accepts (v4 d port) p x = (λ a. a, λ a. a)

@@ -61,9 +61,6 @@ from-feed o (p ∷ ps) x bs =
 pub machines-feed : (o : Opening) (os : List Opening) (bs : List ℕ) → machines (o ∷ os) bs ≡ asMachines (feed routeSide (routeTalk (map hopOf (o ∷ os))) bs)
 machines-feed o os bs = from-feed o os unbound bs
 
-pub none-feed : (bs : List ℕ) → machines [] bs ≡ asMachines (feed routeSide (routeTalk []) bs)
-none-feed bs = ap asMachines (sym (through-none unbound bs))
-
 -- and uses as many bytes
 used-reached : (f : RouteFed) (bs : List ℕ) → (isOver (f .session) ≡ false → reached f ≡ length bs) → usedBy (outcomeIn (f .session)) (f .place) bs ≡ reached f
 used-reached f bs h = go (f .session) refl

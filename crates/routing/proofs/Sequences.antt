@@ -109,7 +109,3 @@ row-length j p y b s = j .long ∙ sym (ap length (j .only p y b s .0))
 pub row-sum : {o q : Opening} {qs : List Opening} {bs : List ℕ} {n : ℕ} {x : Endpoint} → JustOneRow (o ∷ q ∷ qs) bs n x → (a b : List ℕ) (y z : Endpoint)
     → Begins (a ++ b) bs → Sequence o a y → Sequences (q ∷ qs) b z → n ≡ length a + length b
 row-sum j a b y z i s t = row-length j (a ++ b) z i (a, b, y, refl, s, t) ∙ length-append a b
-
--- with no opening it is open from the start, on no byte
-pub none-one : (bs : List ℕ) → (machines [] bs .outcome ≡ Open) × JustOneRow [] bs (usedInTurn [] bs) (machines [] bs .bound)
-none-one bs = (refl, record { begin = []; begins = (bs, refl); is = (refl, refl); only = λ p y b s. s; long = refl })

@@ -3,7 +3,7 @@ use Prim.Native.Nat.{ℕ, zero, suc, _+_, _-_, _≤_}
 use native.Mathlib.Nat.{add-zero, zero-add, suc-add, add-assoc}
 use native.Mathlib.Omega.{arith}
 use mathlib.Core.Path.{_≡_, refl, ap, sym, _∙_}
-use mathlib.Core.Bool.{Bool, true, false, true≢false, cond, _&&_}
+use mathlib.Core.Bool.{Bool, true, false, cond, _&&_}
 use mathlib.Core.List.{List, [], _∷_, _++_, append-assoc, append-nil}
 use lib.ListN.{length, take, drop, length-drop}
 use lib.Seq.{getD-take, getD-drop, take-take, drop-drop, length-take-le}
@@ -23,7 +23,6 @@ use Rattle.serving.specs.declared.Field.the-variants.{First, Methods, Us
 use Rattle.serving.specs.End.{Setup, Asked, asked, Standing, waits, asks, fails, End, has, chosen, methodReply, loginReply, ownReply5, ownReply4, offers, same, reads, connected, connecting, judged, signing, greeted, requested, machine, usedBy, used}
 use Rattle.serving.specs.Side as side
 use Rattle.serving.specs.Side.{EndTalk, EndSession, refuses, unlessOther5, targetOf, atAddress, isKnown, atHead, atPassword, atUser, atMethods, portsOf, ipOf, unlessOther4, atName, atUserId, atRequest, atFirst, talkAt, server, standingOf, readText, readName}
-use Rattle.serving.specs.Worked.{Outcome, plain, fed}
 use Rattle.serving.proofs.Side.{TextLaw, text-law, server-lawful}
 use Rattle.talk.proofs.Feed.{feed-exact}
 use Rattle.talk.specs.Decision.{Decision, undecided, decided, good, bad}
@@ -526,19 +525,6 @@ sent-feed c bs = ap (λ (e : End). e .sent) (machine-feed c bs)
 pub standing-feed : (c : Setup) (bs : List ℕ) → machine c bs .standing ≡ standingOf (feed (server c) (talkAt c First) bs .session)
 standing-feed c bs = ap (λ (e : End). e .standing) (machine-feed c bs)
 
-counted-over : (s : EndSession) (n : ℕ) → isOver s ≡ true → counted (standingOf s) n ≡ n
-counted-over (waiting s h) n e = absurd (true≢false (sym e))
-counted-over (ended (done x)) n e = refl
-counted-over (ended (failed x)) n e = refl
-
-pub place-feed : (c : Setup) (bs : List ℕ) → (let f = feed (server c) (talkAt c First) bs in isOver (f .session) ≡ true → machine c bs .place ≡ f .place)
-place-feed c bs e =
-    let f = feed (server c) (talkAt c First) bs in
-    sym (counted-over (f .session) (machine c bs .place) e)
-    ∙ ap (λ (s : Standing). counted s (machine c bs .place)) (sym (standing-feed c bs))
-    ∙ ap (λ (m : End). m .place) (machine-feed c bs)
-    ∙ counted-over (f .session) (f .place) e
-
 -- ---- the count: all bytes while it waits, else up to the place
 
 used-counted : (s : Standing) (n : ℕ) (bs : List ℕ) → usedBy s n bs ≡ usedBy s (counted s n) bs
@@ -562,10 +548,3 @@ used-feed c bs =
     ∙ ap (λ (m : End). usedBy (m .standing) (m .place) bs) (machine-feed c bs)
     ∙ sym (used-counted (standingOf (f .session)) (f .place) bs)
     ∙ used-reached f bs (feed-exact (server c) (server-lawful c) (talkAt c First) bs)
-
-same-outcome : (m n : Outcome) → m .sent ≡ n .sent → m .standing ≡ n .standing → m .used ≡ n .used → m ≡ n
-same-outcome m n p q r = λ i. record { sent = p i; standing = q i; used = r i }
-
--- so the outcome of any bytes is one
-pub outcome-feed : (c : Setup) (bs : List ℕ) → plain c bs ≡ fed c bs
-outcome-feed c bs = same-outcome (plain c bs) (fed c bs) (sent-feed c bs) (standing-feed c bs) (used-feed c bs)

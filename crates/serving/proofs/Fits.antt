@@ -29,19 +29,6 @@ use Rattle.talk.proofs.Accept.{parsed}
 bytes-behind : (n : ℕ) (bs : List ℕ) → Bytes bs → Bytes (drop n bs)
 bytes-behind n bs y = bytes-right (take n bs) (drop n bs) (rw (take-append-drop n bs) y)
 
--- ---- at a field it awaits that field
-
-pub await-good : (c : Setup) (f : Field) → (k : List ℕ → EndTalk) × (talkAt c f ≡ await f k)
-await-good c First = (_, refl)
-await-good c Methods = (_, refl)
-await-good c User = (_, refl)
-await-good c (Password right) = (_, refl)
-await-good c Head = (_, refl)
-await-good c (Address command type) = (_, refl)
-await-good c Request = (_, refl)
-await-good c (UserId p) = (_, refl)
-await-good c (Name p) = (_, refl)
-
 -- ---- what is held
 
 module _ (c : Setup) where

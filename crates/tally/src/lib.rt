@@ -58,7 +58,7 @@ pub fn begin(
 {
     Tally {
         room,
-        opened: report::answer_number(answer),
+        opened: error_numbers::answer_number(answer),
         used: 0,
         sent: keep_sent(out, sent, kept, 0),
         count: 0,
@@ -81,7 +81,7 @@ fn keep_answer(answer: Answer, kept: &mut [u8], count: usize) -> usize
     requires { ⌜ 8192 + count < length (now kept) ⌝ }
     ensures { λ r. ⌜ (r ≡ count + 1) × (now (kept .exit) ≡ set (now (kept .entry)) (8192 + count) (answerNumber answer)) ⌝ }
 {
-    kept[SENT + count] = report::answer_number(answer);
+    kept[SENT + count] = error_numbers::answer_number(answer);
     count + 1
 }
 

@@ -1,6 +1,6 @@
 use borrow.Author.Needs.{needs}
-use Rattle.report_fields.proofs.answer_number.Statement.{statement}
-use Rattle.report_fields.proofs.answer_number.Tie as tie
+use Rattle.error_numbers.proofs.answer_number.Statement.{statement}
+use Rattle.error_numbers.proofs.answer_number.Tie as tie
 
 enum-told : tie.Need-enum-told
 enum-told c = search needs
