@@ -4,7 +4,7 @@ ghost use Rattle.session.specs.Session.{writeBound};
 ghost use Rattle.session.specs.Calls.{start, deliver, end};
 ghost use Rattle.raw_session.specs.Raw.{sessionOf};
 ghost use Rattle.raw_calls.specs.Calls.{rawOutcome, rawBound, stepBy, Says, Tells};
-use raw_numbers::answer_number;
+use error_numbers::answer_number;
 use raw_numbers::kind_number;
 use raw_session::RawOutcome;
 use raw_session::RawSession;

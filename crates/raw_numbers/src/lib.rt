@@ -1,10 +1,7 @@
 // Numbers for what C has no type for, and back. Every number has a meaning.
 ghost use mathlib.Core.Path.{_≡_};
-ghost use Rattle.protocol.specs.Numbers.{answerNumber};
 ghost use Rattle.raw_numbers.specs.Numbers.{truth, bit, kindOf, kindNumber, familyOf, portOf, errorOf, laterError};
-use error_numbers::number;
 use protocol::AddressKind;
-use protocol::Answer;
 use protocol::Family;
 use protocol::Port;
 use protocol::SocksError;
@@ -136,13 +133,4 @@ pub fn error_of(n: u8, status: u8) -> SocksError
         return SocksError::Unsupported;
     }
     later_error(n, status)
-}
-
-pub fn answer_number(answer: Answer) -> u8
-    ensures { λ r. ⌜ r ≡ answerNumber answer ⌝ }
-{
-    match answer {
-        Answer::Accepted => 0,
-        Answer::Refused(error) => number(error),
-    }
 }

@@ -1,6 +1,7 @@
 // The proxy's end as numbers and arrays, by value, for programs in C and Rust.
 ghost use mathlib.Core.Path.{_≡_};
 ghost use Rattle.raw_server.specs.Raw.{portsOf, awaitedOf, stageOf, numbered, withPorts, passwordNumber, askedNumber, openNumber, awaitedNumbers, stageNumbers, serverOf, rawOf, standingOf, servedOf};
+use error_numbers::answer_number;
 use error_numbers::number;
 use error_numbers::status;
 use protocol::Answer;
@@ -8,7 +9,6 @@ use protocol::Bound;
 use protocol::Version;
 use proxy_calls::Credential;
 use proxy_calls::Server;
-use raw_numbers::answer_number;
 use raw_numbers::bit;
 use raw_numbers::error_of;
 use raw_numbers::kind_number;

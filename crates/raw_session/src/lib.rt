@@ -1,6 +1,7 @@
 // A session as numbers and arrays, by value, for programs in C and Rust.
 ghost use mathlib.Core.Path.{_≡_};
 ghost use Rattle.raw_session.specs.Raw.{stageOf, methodNumber, replyNumber, stageNumber, stageError, stageStatus, requestsOf, sessionOf, rawOf, outcomeOf, stepOf};
+use error_numbers::answer_number;
 use error_numbers::number;
 use error_numbers::status;
 use protocol::Answer;
@@ -8,7 +9,6 @@ use protocol::AuthMethod;
 use protocol::Bound;
 use protocol::Outcome;
 use protocol::Reply;
-use raw_numbers::answer_number;
 use raw_numbers::bit;
 use raw_numbers::error_of;
 use raw_numbers::kind_number;
