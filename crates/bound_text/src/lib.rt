@@ -9,6 +9,7 @@ ghost use Rattle.protocol.specs.Requests.{kindOf};
 ghost use Rattle.groups_text.specs.Groups.{splitBy, groupsOf, groupsText};
 ghost use Rattle.bound_text.specs.Text.{hostText, textOf, boundText};
 ghost use Rattle.bound_text.specs.Written.{writeText, Writes};
+ghost use Rattle.protocol.specs.declared.Answer.the-variants as Answer;
 use groups_text::groups_of;
 use groups_text::put_groups;
 use groups_text::put_row;
@@ -89,6 +90,7 @@ fn put_text(kind: AddressKind, bytes: &[u8], port: u16, out: &mut [u8], at: usiz
 // The text goes into a buffer that holds the longest one: what the caller lends is written only if the text fits.
 pub fn put_bound(bound: Address, text: &mut [u8]) -> Written
     ensures { λ r. ⌜ Writes (writeText (boundText bound) (now (text .entry))) r (now (text .exit)) ⌝ }
+    ensures { λ r. ⌜ (261 ≤ length (now (text .entry)) → r .answer ≡ Answer.Accepted) ⌝ }
 {
     let kind = bound.kind;
     let bytes = bound.bytes;

@@ -101,6 +101,7 @@ pub extern "C" fn gitaymba_bound(session: RawSession) -> RawAddress
 #[no_mangle]
 pub extern "C" fn gitaymba_bound_text(session: RawSession, text: &mut [u8; 261]) -> RawText
     ensures { λ r. ⌜ Tells (writeBound (sessionOf session) (now (text .entry))) r (now (text .exit)) ⌝ }
+    ensures { λ r. ⌜ (r .answer ≡ 18 → ⊥) ⌝ }
 {
     raw_calls::bound_text(session, text)
 }

@@ -1,5 +1,7 @@
 // The calls on a session of numbers and arrays, each the library's on the session that they mean.
 ghost use mathlib.Core.Path.{_≡_};
+ghost use Prim.Native.Nat.{_≤_};
+ghost use lib.ListN.{length};
 ghost use Rattle.session.specs.Session.{writeBound};
 ghost use Rattle.session.specs.Calls.{start, deliver, end};
 ghost use Rattle.raw_session.specs.Raw.{sessionOf};
@@ -81,6 +83,7 @@ pub fn bound(session: RawSession) -> RawAddress
 
 pub fn bound_text(session: RawSession, text: &mut [u8]) -> RawText
     ensures { λ r. ⌜ Tells (writeBound (sessionOf session) (now (text .entry))) r (now (text .exit)) ⌝ }
+    ensures { λ r. ⌜ (261 ≤ length (now (text .entry)) → r .answer ≡ 18 → ⊥) ⌝ }
 {
     let before = session_of(session);
     let written = before.bound_text(text);

@@ -4,7 +4,7 @@ use Rattle.protocol.specs.Requests.{kindOf}
 use borrow.Author.Needs.{needs}
 use lib.ListN.{length, take}
 use lib.Seq.{length-take-le}
-use mathlib.Core.Path.{_≡_, sym}
+use mathlib.Core.Path.{_≡_, refl, sym}
 use native.Mathlib.Omega.{arith}
 use Prim.Native.Nat.{_≤_}
 use Rattle.bound_text.proofs.put_bound.Statement.{statement}
@@ -44,7 +44,7 @@ put-text-requires : tie.Need-put-text-requires
 put-text-requires c κs = let p = part (c .before .before) in (p .size, (p .most, search needs))
 
 returns : tie.Need-returns
-returns c = refused (c .before .before .put-text .ensures .1) (told (c .before .before .before .before .before)) (c .if1 .taken)
+returns c = (refused (c .before .before .put-text .ensures .1) (told (c .before .before .before .before .before)) (c .if1 .taken), λ h. absurd (omega (arith, h, c .if1 .taken, c .before .before .put-text .ensures .0)))
 
 array-share-prefix-whole : tie.Need-array-share-prefix-whole
 array-share-prefix-whole c = let t = c .before .before .before .put-text .ensures in omega (arith, t .0, t .1 .same)
@@ -61,7 +61,7 @@ same-length : tie.Need-same-length
 same-length c = search needs
 
 returns-2 : tie.Need-returns-2
-returns-2 c = written (c .before .before .before .before .before .before .before .put-text .ensures .1) (told (c .before .before .before .before .before .before .before .before .before .before)) (c .before .before .copy .ensures)
+returns-2 c = (written (c .before .before .before .before .before .before .before .put-text .ensures .1) (told (c .before .before .before .before .before .before .before .before .before .before)) (c .before .before .copy .ensures), λ h. refl)
 
 pub put-bound-spec : {M : Type 1} → statement M
 put-bound-spec =

@@ -17,7 +17,7 @@ same-length : tie.Need-same-length
 same-length c = search needs
 
 returns-2 : tie.Need-returns-2
-returns-2 c = (sym (not-false (c .before .before .before .before .before .before .before .args .asks) (c .before .before .before .before .before .if1 .left)), c .before .before .before .bound-text .ensures .inside)
+returns-2 c = (sym (not-false (c .before .before .before .before .before .before .before .args .asks) (c .before .before .before .before .before .if1 .left)), c .before .before .before .bound-text .ensures .0 .inside)
 
 pub bound-of-spec : {M : Type 1} → statement M
 bound-of-spec =

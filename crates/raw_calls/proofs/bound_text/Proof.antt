@@ -1,4 +1,4 @@
-use Rattle.raw_calls.proofs.Laws.{says-text}
+use Rattle.raw_calls.proofs.Laws.{says-fits, says-text}
 use borrow.Author.Needs.{needs}
 use Rattle.raw_calls.proofs.bound_text.Statement.{statement}
 use Rattle.raw_calls.proofs.bound_text.Tie as tie
@@ -16,7 +16,7 @@ same-length : tie.Need-same-length
 same-length c = search needs
 
 returns : tie.Need-returns
-returns c = says-text (c .before .before .before .before .before .before .before .args .session) (c .before .before .before .before .before .session-of .ensures) _ _ _ (c .before .before .before .bound-text .ensures) (c .answer-number .ensures)
+returns c = (says-text (c .before .before .before .before .before .before .before .args .session) (c .before .before .before .before .before .session-of .ensures) _ _ _ (c .before .before .before .bound-text .ensures .0) (c .answer-number .ensures), says-fits (c .before .before .before .before .before .before .before .args .session) (c .before .before .before .before .before .session-of .ensures) _ _ _ (c .before .before .before .bound-text .ensures .0) (c .before .before .before .bound-text .ensures .1) (c .answer-number .ensures))
 
 pub bound-text-spec : {M : Type 1} → statement M
 bound-text-spec =

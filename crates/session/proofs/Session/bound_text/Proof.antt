@@ -1,3 +1,5 @@
+use mathlib.Core.Path.{sym, _∙_}
+use mathlib.Core.Bool.{true≢false}
 use borrow.Author.Tests.{not-true, not-false}
 use Rattle.session.proofs.Named.{not-written, written}
 use borrow.Author.Needs.{needs}
@@ -8,7 +10,7 @@ is-open-requires : tie.Need-is-open-requires
 is-open-requires c κs = search needs
 
 returns : tie.Need-returns
-returns c = not-written (c .before .before .before .args .self) (c .before .is-open .ensures) (not-true _ (c .if1 .taken)) (c .before .before .before .args .text .now)
+returns c = (not-written (c .before .before .before .args .self) (c .before .is-open .ensures) (not-true _ (c .if1 .taken)) (c .before .before .before .args .text .now), λ o h. absurd (true≢false (sym o ∙ sym (c .before .is-open .ensures) ∙ not-true _ (c .if1 .taken))))
 
 bound-requires : tie.Need-bound-requires
 bound-requires c κs = search needs
@@ -20,7 +22,7 @@ same-length : tie.Need-same-length
 same-length c = search needs
 
 returns-2 : tie.Need-returns-2
-returns-2 c = written (c .before .before .before .before .before .before .before .before .args .self) (c .before .before .before .before .before .before .is-open .ensures) (not-false _ (c .before .before .before .before .before .if1 .left)) (c .before .before .before .before .before .before .before .before .args .text .now) (c .before .before .before .before .bound .ensures) (c .before .before .put-bound .ensures)
+returns-2 c = (written (c .before .before .before .before .before .before .before .before .args .self) (c .before .before .before .before .before .before .is-open .ensures) (not-false _ (c .before .before .before .before .before .if1 .left)) (c .before .before .before .before .before .before .before .before .args .text .now) (c .before .before .before .before .bound .ensures) (c .before .before .put-bound .ensures .0), λ o h. c .before .before .put-bound .ensures .1 h)
 
 pub bound-text-spec : {M : Type 1} → statement M
 bound-text-spec =
