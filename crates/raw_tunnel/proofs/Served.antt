@@ -15,7 +15,7 @@ use Rattle.serving_stages.specs.Told.{outcomeAt}
 use Rattle.proxy_calls.specs.declared.Server.{Server}
 use Rattle.proxy_calls.specs.Server.{heldBytes, askedFor, destination}
 use Rattle.proxy_calls.specs.Calls.{setUp, deliver, receiver}
-use Rattle.proxy.specs.Served.{outcomeBy, targetBy, joinedOf, Served}
+use Rattle.proxy.specs.Served.{outcomeBy, targetBy, Served}
 use Rattle.proxy.proofs.Tunnels.{all-served}
 use Rattle.raw_numbers.specs.Numbers.{truth}
 use Rattle.raw_server.specs.Raw.{rawOf, standingOf}
@@ -24,10 +24,9 @@ use Rattle.raw_proxy.specs.Calls.{targetOf}
 use Rattle.raw_tunnel.specs.Demand3.{Lent}
 use Rattle.raw_tunnel.specs.Served as raw
 use Rattle.raw_tunnel.specs.Served.{returned, rawStanding, rawTarget, standingNumbers, RawServed3, RawServing}
-use Rattle.raw_tunnel.proofs.Carried.{AsMuch, joined-as, tunnel-as, lends-as}
+use Rattle.raw_tunnel.proofs.Carried.{Carried, carries, lends-as}
 use Rattle.raw_tunnel.proofs.Tunnels.{number-accepted}
 use Rattle.talk.specs.Tunnel.{Delivery, answerTo, after}
-use Rattle.talk.specs.Follow.{Followed}
 
 -- an end that was not answered stands, in numbers, as the side's session
 standing-told : (t : Stage) (x : Endpoint) (h : List ℕ) → outcomeAt t ≡ outcomeBy (side.standingOf (sessionAt t x h))
@@ -45,40 +44,33 @@ module _ (c : Setup) (s : Server) (served : (ds : List Delivery) → Served c s 
     abbrev e : Server
     e = after receiver s ds
 
-    much : AsMuch rawOf answerNumber receiver raw.receiver same ds
-    much d m = lends-as 262 refl d (l d m)
-
-    joins : raw.joinedOf ds ≡ joinedOf ds
-    joins = joined-as rawOf answerNumber receiver raw.receiver same ds much
-
-    carries : Followed (λ r t. r ≡ rawOf t) raw.receiver receiver (rawOf s) s ds
-    carries = tunnel-as rawOf answerNumber receiver raw.receiver same ds much s
+    carried : Carried rawOf receiver raw.receiver s ds
+    carried = carries rawOf answerNumber receiver raw.receiver same ds (λ d m. lends-as 262 refl d (l d m)) s
 
     stands : rawStanding (after raw.receiver (rawOf s) ds) ≡ standingNumbers (machine c (raw.joinedOf ds) .standing)
     stands =
         let h = served ds in
-        ap rawStanding (carries .session) ∙ ap (λ (t : Server). standingOf (t .stage)) (server-back e)
+        ap rawStanding (carried .session) ∙ ap (λ (t : Server). standingOf (t .stage)) (server-back e)
         ∙ standing-told (e .stage) (askedFor e) (heldBytes e) (h .outcome-as ∙ ap outcomeBy (sym (h .standing-as)))
-        ∙ ap standingNumbers (h .standing-as) ∙ rw joins
+        ∙ ap standingNumbers (h .standing-as) ∙ rw (carried .joins)
 
     targets : rawTarget (after raw.receiver (rawOf s) ds) ≡ targetOf (targetAs (targetBy (machine c (raw.joinedOf ds) .standing)))
     targets =
-        ap rawTarget (carries .session) ∙ ap (λ (t : Server). targetOf (destination t)) (server-back e) ∙ ap targetOf (served ds .destination-as) ∙ rw joins
+        ap rawTarget (carried .session) ∙ ap (λ (t : Server). targetOf (destination t)) (server-back e) ∙ ap targetOf (served ds .destination-as) ∙ rw (carried .joins)
 
   raw-served : (ds : List Delivery) → Lent ds → RawServed3 c (rawOf s) ds
   raw-served ds l =
       let h = served ds in
-      let w = carries ds l in
-      let j = joins ds l in
+      let w = carried ds l in
       record {
-        sent-as = rw (j, w .sent) (h .sent-as);
+        sent-as = rw (w .joins, w .sent) (h .sent-as);
         standing-as = stands ds l;
         destination-as = targets ds l;
-        count-as = rw (j, w .count) (h .count-as);
-        rests-are = rw (j, w .count) (w .rest ∙ h .rests-are);
+        count-as = rw (w .joins, w .count) (h .count-as);
+        rests-are = rw (w .joins, w .count) (w .rest ∙ h .rests-are);
         alike = λ ds′ l′ q.
-            let w′ = carries ds′ l′ in
-            let a = h .alike ds′ (sym (joins ds′ l′) ∙ q ∙ j) in
+            let w′ = carried ds′ l′ in
+            let a = h .alike ds′ (sym (w′ .joins) ∙ q ∙ w .joins) in
             record {
               standings = stands ds′ l′ ∙ rw q (sym (stands ds l));
               targets = targets ds′ l′ ∙ rw q (sym (targets ds l));

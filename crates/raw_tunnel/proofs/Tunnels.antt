@@ -20,7 +20,7 @@ use Rattle.sending.specs.declared.Stage.the-variants.{Awaiting}
 use Rattle.session.specs.declared.Session.{Session}
 use Rattle.session.specs.Session.{outcome, bound}
 use Rattle.session.specs.Calls.{preparedFor, preparedBy, prepare5, prepare4, start, deliver, receiver}
-use Rattle.socks.specs.Demand3.{Demand3, Tunnelled, joinedOf}
+use Rattle.socks.specs.Demand3.{Demand3, Tunnelled}
 use Rattle.socks.proofs.Refusals.{start-number}
 use Rattle.socks.proofs.Openings.{demand3-v5, demand3-v4}
 use Rattle.raw_session.specs.declared.RawOutcome.{RawOutcome}
@@ -31,10 +31,9 @@ use Rattle.raw_openings.specs.Given.{given5, given4, preparedStep}
 use Rattle.raw_calls.specs.Calls.{rawOutcome, addressOf, rawBound}
 use Rattle.raw_tunnel.specs.Demand3 as raw
 use Rattle.raw_tunnel.specs.Demand3.{returned, Lent, RawDemand3, RawTunnelled, RawTunnelled5, RawTunnelled4}
-use Rattle.raw_tunnel.proofs.Turns.{first-enough}
-use Rattle.raw_tunnel.proofs.Carried.{AsMuch, joined-as, tunnel-as, lends-as}
+use Rattle.raw_tunnel.proofs.Turns.{enough}
+use Rattle.raw_tunnel.proofs.Carried.{Carried, carries, lends-as}
 use Rattle.talk.specs.Tunnel.{Delivery, answerTo, after}
-use Rattle.talk.specs.Follow.{Followed}
 
 pub number-accepted : (x : Answer) → answerNumber x ≡ 0 → x ≡ Accepted
 number-accepted Accepted q = refl
@@ -50,53 +49,40 @@ open-just (Failed e) = (λ q. absurd (omega arith), λ q. ap (λ (x : Outcome). 
 same : (n : ℕ) (s : Session) (d : Delivery) → answerTo raw.receiver (rawOf s) d ≡ returned (answerTo (receiver n) s d)
 same n s d = ap (λ (t : Session). returned (deliver t (d .piece) (d .output))) (session-back s)
 
-enough : (o : Opening) → leb (deliveryRoom o) 1024 ≡ true
-enough (v5 c d port b) = refl
-enough (v4 d port) = refl
+enough-for : (o : Opening) → leb (deliveryRoom o) 1024 ≡ true
+enough-for (v5 c d port b) = refl
+enough-for (v4 d port) = refl
 
 module _ (o : Opening) (s : Session) where
   abbrev n : ℕ
   n = deliveryRoom o
 
   module _ (ds : List Delivery) (l : Lent ds) where
-    much : AsMuch rawOf answerNumber (receiver n) raw.receiver (same n) ds
-    much d m = lends-as n (enough o) d (l d m)
-
-    joins : raw.joinedOf ds ≡ joinedOf o ds
-    joins = joined-as rawOf answerNumber (receiver n) raw.receiver (same n) ds much
-
-    carries : Followed (λ r t. r ≡ rawOf t) raw.receiver (receiver n) (rawOf s) s ds
-    carries = tunnel-as rawOf answerNumber (receiver n) raw.receiver (same n) ds much s
-
-    means : after raw.receiver (rawOf s) ds ≡ rawOf (after (receiver n) s ds)
-    means = carries .session
+    carried : Carried rawOf (receiver n) raw.receiver s ds
+    carried = carries rawOf answerNumber (receiver n) raw.receiver (same n) ds (λ d m. lends-as n (enough-for o) d (l d m)) s
 
     outcomes : rawOutcome (after raw.receiver (rawOf s) ds) ≡ outcomeOf (outcome (after (receiver n) s ds))
-    outcomes = ap rawOutcome means ∙ ap (λ (t : Session). outcomeOf (outcome t)) (session-back (after (receiver n) s ds))
+    outcomes = ap rawOutcome (carried .session) ∙ ap (λ (t : Session). outcomeOf (outcome t)) (session-back (after (receiver n) s ds))
 
     bounds : rawBound (after raw.receiver (rawOf s) ds) ≡ addressOf (bound (after (receiver n) s ds))
-    bounds = ap rawBound means ∙ ap (λ (t : Session). addressOf (bound t)) (session-back (after (receiver n) s ds))
-
-    states : rawOutcome (after raw.receiver (rawOf s) ds) .state ≡ outcomeOf (outcome (after (receiver n) s ds)) .state
-    states = ap (λ (x : RawOutcome). x .state) outcomes
+    bounds = ap rawBound (carried .session) ∙ ap (λ (t : Session). addressOf (bound t)) (session-back (after (receiver n) s ds))
 
   raw-demand3 : (sent : List ℕ) (ds : List Delivery) → Lent ds → Demand3 o s sent ds → RawDemand3 o (rawOf s) sent ds
   raw-demand3 sent ds l h =
-      let w = carries ds l in
-      let j = joins ds l in
+      let w = carried ds l in
       let x = outcome (after (receiver n) s ds) in
-      let st = states ds l in
+      let e = ap (λ (y : RawOutcome). y .state) (outcomes ds l) in
       record {
-        opens-just = (λ q. rw j (h .opens-just .0 (open-just x .0 (sym st ∙ q))), λ q. st ∙ open-just x .1 (h .opens-just .1 (subst (Replied o) j q)));
-        just-one = λ q. rw (j, w .count) (h .just-one (open-just x .0 (sym st ∙ q)));
-        bound-as = bounds ds l ∙ ap addressOf (h .bound-as) ∙ rw j;
-        rests-are = rw (j, w .count) (w .rest ∙ h .rests-are);
-        sent-as = rw (j, w .sent) (h .sent-as);
-        outcome-as = outcomes ds l ∙ ap outcomeOf (h .outcome-as) ∙ rw j;
-        count-as = rw (j, w .count) (h .count-as);
-        alike = λ ds′ l′ e.
-            let w′ = carries ds′ l′ in
-            let a = h .alike ds′ (sym (joins ds′ l′) ∙ e ∙ j) in
+        opens-just = (λ q. rw (w .joins) (h .opens-just .0 (open-just x .0 (sym e ∙ q))), λ q. e ∙ open-just x .1 (h .opens-just .1 (subst (Replied o) (w .joins) q)));
+        just-one = λ q. rw (w .joins, w .count) (h .just-one (open-just x .0 (sym e ∙ q)));
+        bound-as = bounds ds l ∙ ap addressOf (h .bound-as) ∙ rw (w .joins);
+        rests-are = rw (w .joins, w .count) (w .rest ∙ h .rests-are);
+        sent-as = rw (w .joins, w .sent) (h .sent-as);
+        outcome-as = outcomes ds l ∙ ap outcomeOf (h .outcome-as) ∙ rw (w .joins);
+        count-as = rw (w .joins, w .count) (h .count-as);
+        alike = λ ds′ l′ q.
+            let w′ = carried ds′ l′ in
+            let a = h .alike ds′ (sym (w′ .joins) ∙ q ∙ w .joins) in
             record {
               outcomes = outcomes ds′ l′ ∙ ap outcomeOf (a .outcomes) ∙ sym (outcomes ds l);
               bounds = bounds ds′ l′ ∙ ap addressOf (a .bounds) ∙ sym (bounds ds l);
@@ -110,7 +96,7 @@ module _ (o : Opening) (s : Session) where
 
 -- what is prepared starts with 1,024 bytes of output
 starts-lent : (o : Opening) (out : List ℕ) → length out ≡ 1024 → answerNumber (start (preparedFor o) out .answer) ≡ 0
-starts-lent o out l = start-number (preparedFor o) out ∙ rw (l, first-enough (Awaiting (firstReply o)))
+starts-lent o out l = start-number (preparedFor o) out ∙ rw (l, enough (Awaiting (firstReply o)) .0)
 
 raw-tunnelled : (x : Answer) (o : Opening) → Tunnelled (preparedBy x o) o → RawTunnelled (preparedStep (preparedBy x o)) o
 raw-tunnelled Accepted o h p out l =

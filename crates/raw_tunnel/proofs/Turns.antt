@@ -48,21 +48,13 @@ unstarted-just (suc n) = rw (ne-eqb (suc n) 0 (λ e. omega arith)) (λ q. absurd
 
 -- ---- 1,024 bytes are enough for every start and delivery
 
-pub first-enough : (t : Stage) → leb (firstRoomAt t) 1024 ≡ true
-first-enough (Awaiting (NegotiationRes m)) = refl
-first-enough (Awaiting AuthenticationRes) = refl
-first-enough (Awaiting ProxyRes) = refl
-first-enough (Awaiting Response) = refl
-first-enough Open = refl
-first-enough (Failed e) = refl
-
-enough : (t : Stage) → leb (roomAt t) 1024 ≡ true
-enough (Awaiting (NegotiationRes m)) = refl
-enough (Awaiting AuthenticationRes) = refl
-enough (Awaiting ProxyRes) = refl
-enough (Awaiting Response) = refl
-enough Open = refl
-enough (Failed e) = refl
+pub enough : (t : Stage) → (leb (firstRoomAt t) 1024 ≡ true) × (leb (roomAt t) 1024 ≡ true)
+enough (Awaiting (NegotiationRes m)) = (refl, refl)
+enough (Awaiting AuthenticationRes) = (refl, refl)
+enough (Awaiting ProxyRes) = (refl, refl)
+enough (Awaiting Response) = (refl, refl)
+enough Open = (refl, refl)
+enough (Failed e) = (refl, refl)
 
 -- ---- 16, then 22
 
@@ -91,8 +83,8 @@ raw-turns r out l =
     let s = sessionOf r in
     let over = over-just (view s) in
     record {
-      start-number = in-order _ _ _ (refusals.start-number s out ∙ rw (l, first-enough (s .stage))) over (started-just (r .started));
-      deliver-number = λ piece. in-order _ _ _ (refusals.deliver-number s out piece ∙ rw (l, enough (s .stage))) over (unstarted-just (r .started));
+      start-number = in-order _ _ _ (refusals.start-number s out ∙ rw (l, enough (s .stage) .0)) over (started-just (r .started));
+      deliver-number = λ piece. in-order _ _ _ (refusals.deliver-number s out piece ∙ rw (l, enough (s .stage) .1)) over (unstarted-just (r .started));
       end-number = in-order _ _ _ (refusals.end-number s) over (unstarted-just (r .started));
       start-untouched = untouched (start s out) r out (refusals.start-refuses s out);
       deliver-untouched = λ piece. untouched (deliver s piece out) r out (refusals.deliver-refuses s out piece);
