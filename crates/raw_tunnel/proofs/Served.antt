@@ -1,8 +1,9 @@
 -- F-3's promise over the proxy's end as numbers: that over the end that they mean.
-use native.Mathlib.Omega.{arith}
 use Prim.Native.Nat.{ℕ}
+use native.Mathlib.Omega.{arith}
 use mathlib.Core.Path.{_≡_, refl, ap, sym, _∙_}
 use mathlib.Core.List.{List}
+use lib.ListN.{drop}
 use Rattle.protocol.specs.Bound.{Endpoint}
 use Rattle.protocol.specs.Numbers.{answerNumber}
 use Rattle.serving.specs.declared.Stage.{Stage}
@@ -67,7 +68,7 @@ module _ (c : Setup) (s : Server) (served : (ds : List Delivery) → Served c s 
         standing-as = stands ds l;
         destination-as = targets ds l;
         count-as = rw (w .joins, w .count) (h .count-as);
-        rests-are = rw (w .joins, w .count) (w .rest ∙ h .rests-are);
+        rests-are = w .rest ∙ h .rests-are ∙ (λ i. drop (sym (w .count) i) (sym (w .joins) i));
         alike = λ ds′ l′ q.
             let w′ = carried ds′ l′ in
             let a = h .alike ds′ (sym (w′ .joins) ∙ q ∙ w .joins) in

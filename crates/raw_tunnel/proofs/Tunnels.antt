@@ -5,7 +5,7 @@ use mathlib.Core.Path.{_≡_, refl, ap, sym, subst, _∙_}
 use mathlib.Core.Logic.{_↔_}
 use mathlib.Core.Bool.{true}
 use mathlib.Core.List.{List}
-use lib.ListN.{length, take}
+use lib.ListN.{length, take, drop}
 use lib.Dec.{leb}
 use Rattle.protocol.specs.declared.Answer.{Answer}
 use Rattle.protocol.specs.declared.Answer.the-variants.{Accepted, Refused}
@@ -76,7 +76,7 @@ module _ (o : Opening) (s : Session) where
         opens-just = (λ q. rw (w .joins) (h .opens-just .0 (open-just x .0 (sym e ∙ q))), λ q. e ∙ open-just x .1 (h .opens-just .1 (subst (Replied o) (w .joins) q)));
         just-one = λ q. rw (w .joins, w .count) (h .just-one (open-just x .0 (sym e ∙ q)));
         bound-as = bounds ds l ∙ ap addressOf (h .bound-as) ∙ rw (w .joins);
-        rests-are = rw (w .joins, w .count) (w .rest ∙ h .rests-are);
+        rests-are = w .rest ∙ h .rests-are ∙ (λ i. drop (sym (w .count) i) (sym (w .joins) i));
         sent-as = rw (w .joins, w .sent) (h .sent-as);
         outcome-as = outcomes ds l ∙ ap outcomeOf (h .outcome-as) ∙ rw (w .joins);
         count-as = rw (w .joins, w .count) (h .count-as);
