@@ -1,0 +1,4 @@
+pub mod Carried
+pub mod Turns
+pub mod Tunnels
+pub mod Served

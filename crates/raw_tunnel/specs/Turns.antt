@@ -2,7 +2,7 @@
 use Prim.Native.Nat.{ℕ}
 use mathlib.Core.Path.{_≡_}
 use mathlib.Core.List.{List, [], _∷_}
-use lib.ListN.{length, replicate}
+use lib.ListN.{length}
 use Rattle.protocol.specs.Opening.{_↣_, Answers}
 use Rattle.session.specs.Session.{writeBound}
 use Rattle.session.specs.Calls.{end}
