@@ -230,6 +230,11 @@ number-is RouteLength = (lit< tt, λ q. omega arith)
 number-is OutOfOrder = (lit< tt, λ q. omega arith)
 number-is AnnouncesName = (lit< tt, λ q. omega arith)
 
+-- so 0 says that a call was accepted
+pub number-accepted : (x : Answer) → answerNumber x ≡ 0 → x ≡ Accepted
+number-accepted Accepted q = refl
+number-accepted (Refused e) q = let p = number-is e .0 in absurd (omega arith)
+
 pub answer-not-11 : (x : Answer) → answerNumber x ≡ 11 → ⊥
 answer-not-11 Accepted q = omega arith
 answer-not-11 (Refused e) q = number-is e .1 q

@@ -6,6 +6,7 @@ use mathlib.Core.List.{List}
 use lib.ListN.{drop}
 use Rattle.protocol.specs.Bound.{Endpoint}
 use Rattle.protocol.specs.Numbers.{answerNumber}
+use Rattle.protocol.proofs.Limits.{number-accepted}
 use Rattle.serving.specs.declared.Stage.{Stage}
 use Rattle.serving.specs.declared.Stage.the-variants.{Awaiting, Asked, Open, Failed}
 use Rattle.serving.specs.End.{Setup, machine}
@@ -15,18 +16,17 @@ use Rattle.destinations.specs.Last.{targetAs}
 use Rattle.serving_stages.specs.Told.{outcomeAt}
 use Rattle.proxy_calls.specs.declared.Server.{Server}
 use Rattle.proxy_calls.specs.Server.{heldBytes, askedFor, destination}
-use Rattle.proxy_calls.specs.Calls.{setUp, deliver, receiver}
+use Rattle.proxy_calls.specs.Calls.{setUp, deliver, answer, end, receiver}
 use Rattle.proxy.specs.Served.{outcomeBy, targetBy, Served}
 use Rattle.proxy.proofs.Tunnels.{all-served}
-use Rattle.raw_numbers.specs.Numbers.{truth}
-use Rattle.raw_server.specs.Raw.{rawOf, standingOf}
+use Rattle.raw_numbers.specs.Numbers.{truth, errorAmong, errorOf}
+use Rattle.raw_server.specs.Raw.{stageOf, rawOf, standingOf}
 use Rattle.raw_server.proofs.Back.{server-back}
 use Rattle.raw_proxy.specs.Calls.{targetOf}
 use Rattle.raw_tunnel.specs.Demand3.{Lent}
 use Rattle.raw_tunnel.specs.Served as raw
-use Rattle.raw_tunnel.specs.Served.{returned, rawStanding, rawTarget, standingNumbers, RawServed3, RawServing}
+use Rattle.raw_tunnel.specs.Served.{returned, rawStanding, rawTarget, standingNumbers, RawServed3, RawServing, Zeros}
 use Rattle.raw_tunnel.proofs.Carried.{Carried, carries, lends-as}
-use Rattle.raw_tunnel.proofs.Tunnels.{number-accepted}
 use Rattle.talk.specs.Tunnel.{Delivery, answerTo, after}
 
 -- an end that was not answered stands, in numbers, as the side's session
@@ -84,3 +84,7 @@ module _ (c : Setup) (s : Server) (served : (ds : List Delivery) → Served c s 
 pub raw-serving : RawServing
 raw-serving authenticates user password p =
     raw-served _ (setUp (truth authenticates) user password .server) (all-served (truth authenticates) user password (number-accepted _ p))
+
+pub zeros : Zeros
+unfolding stageOf errorOf errorAmong deliver answer end
+zeros = record { stands = refl; deliver = λ piece out. refl; answer = λ status x out. refl; end = refl }

@@ -15,7 +15,7 @@ use Rattle.protocol.specs.Bytes.{BytePieces}
 use Rattle.protocol.specs.Numbers.{answerNumber}
 use Rattle.protocol.specs.Opening.{Opening, v5, v4, opening5, opening4, check5, check4, firstReply, deliveryRoom}
 use Rattle.protocol.specs.Grammar.{Replied}
-use Rattle.protocol.proofs.Limits.{number-is}
+use Rattle.protocol.proofs.Limits.{number-accepted, number-is}
 use Rattle.sending.specs.declared.Stage.the-variants.{Awaiting}
 use Rattle.session.specs.declared.Session.{Session}
 use Rattle.session.specs.Session.{outcome, bound}
@@ -34,10 +34,6 @@ use Rattle.raw_tunnel.specs.Demand3.{returned, Lent, RawDemand3, RawTunn
 use Rattle.raw_tunnel.proofs.Turns.{enough}
 use Rattle.raw_tunnel.proofs.Carried.{Carried, carries, lends-as}
 use Rattle.talk.specs.Tunnel.{Delivery, answerTo, after}
-
-pub number-accepted : (x : Answer) → answerNumber x ≡ 0 → x ≡ Accepted
-number-accepted Accepted q = refl
-number-accepted (Refused e) q = let p = number-is e .0 in absurd (omega arith)
 
 open-just : (x : Outcome) → outcomeOf x .state ≡ 1 ↔ (x ≡ Open)
 open-just Waiting = (λ q. absurd (omega arith), λ q. ap (λ (x : Outcome). outcomeOf x .state) q)

@@ -4,15 +4,16 @@ use mathlib.Core.Path.{_≡_}
 use mathlib.Core.List.{List, []}
 use lib.ListN.{drop}
 use Rattle.protocol.specs.Numbers.{number, status}
+use Rattle.protocol.specs.Bound.{Endpoint}
 use Rattle.serving.specs.End.{Setup, Standing, waits, asks, fails, success, machine, used}
 use Rattle.destinations.specs.Last.{targetAs}
 use Rattle.proxy_calls.specs.Server.{destination}
-use Rattle.proxy_calls.specs.Calls.{Call, setUp, deliver}
+use Rattle.proxy_calls.specs.Calls.{Call, setUp, deliver, answer, end}
 use Rattle.proxy.specs.Served.{setupFor, targetBy}
 use Rattle.raw_numbers.specs.Numbers.{truth}
 use Rattle.raw_session.specs.declared.RawOutcome.{RawOutcome}
 use Rattle.raw_server.specs.declared.RawServer.{RawServer}
-use Rattle.raw_server.specs.Raw.{serverOf, standingOf}
+use Rattle.raw_server.specs.Raw.{serverOf, standingOf, zeros}
 use Rattle.raw_proxy.specs.declared.RawTarget.{RawTarget}
 use Rattle.raw_proxy.specs.Calls.{setUpServed, servedBy, targetOf}
 use Rattle.raw_tunnel.specs.Demand3.{Lent}
@@ -68,3 +69,10 @@ pub record RawServed3 (c : Setup) (r : RawServer) (ds : List Delivery) : Type 0 
 abbrev pub RawServing : Type 0
 RawServing = (authenticates : ℕ) (user password : List ℕ) → setUpServed (setUp (truth authenticates) user password) .answer ≡ 0 → (ds : List Delivery) → Lent ds
     → RawServed3 (setupFor (truth authenticates) user password) (setUpServed (setUp (truth authenticates) user password) .server) ds
+
+-- all zeros is an end that refuses everything
+pub record Zeros : Type 0 where
+  pub stands : rawStanding zeros ≡ record { state = 2; number = 16; status = 0 }
+  pub deliver : (piece out : List ℕ) → returned (deliver (serverOf zeros) piece out) .answer ≡ 16
+  pub answer : (status : ℕ) (x : Endpoint) (out : List ℕ) → returned (answer (serverOf zeros) status x out) .answer ≡ 16
+  pub end : returned (end (serverOf zeros)) .answer ≡ 16

@@ -14,7 +14,7 @@ use Rattle.protocol.specs.Numbers.{number, answerNumber}
 use Rattle.protocol.specs.Opening.{Condition, Answers}
 use Rattle.protocol.proofs.Claims.{answers-behind, answers-before}
 use Rattle.protocol.proofs.Openings.{all-passed, checked, less-just, check5-just, check4-just}
-use Rattle.protocol.proofs.Limits.{number-is}
+use Rattle.protocol.proofs.Limits.{number-accepted, number-is}
 use Rattle.routing.specs.Route.{Route, Asked, over5, over4, asked, roomFor, conditionsFor, conditionsInTurn, conditions, checkFor, unlessRefused, checkInTurn, check}
 
 -- ---- the answer is that of the conditions
@@ -70,10 +70,6 @@ pub record Acceptable (r : Route) (n : ℕ) : Type 0 where
   pub eight : length (r .proxies) ≤ 8
   pub room : roomFor (length (r .proxies)) ≤ n
   pub each : EachAccepted (asked r)
-
-number-accepted : (x : Answer) → answerNumber x ≡ 0 → x ≡ Accepted
-number-accepted Accepted q = refl
-number-accepted (Refused e) q = let p = number-is e .0 in absurd (omega arith)
 
 pub accepted-has : (r : Route) (n : ℕ) → check r n ≡ Accepted → Acceptable r n
 accepted-has r n q =
