@@ -1,4 +1,4 @@
-"""proxy.py together|apart COUNT: a SOCKS proxy on a free port of 127.0.0.1, which it prints first, for COUNT clients.
+"""proxy.py together|apart COUNT [PORT]: a SOCKS proxy on that port of 127.0.0.1, or a free one, which it prints first, for COUNT clients.
 
 It connects to nothing: it grants every request, with a stream that says what was asked for. together: the last reply and the stream go in
 one write, as they may behind a busy proxy. apart: every byte in its own.
@@ -54,7 +54,7 @@ def serve(client, apart):
     say(reply + f"{version} {host} {port} {who.decode()}\n".encode())
 
 
-listener = socket.create_server(("127.0.0.1", 0))
+listener = socket.create_server(("127.0.0.1", int(sys.argv[3]) if len(sys.argv) > 3 else 0))
 print(listener.getsockname()[1], flush=True)
 listener.settimeout(60)
 for _ in range(int(sys.argv[2])):

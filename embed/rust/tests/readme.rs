@@ -1,16 +1,15 @@
-//! The README's program in Rust is built as it is printed.
-use std::path::Path;
+//! The README's program in Rust is built and run as it is printed; it wants port 1080 of 127.0.0.1.
+use std::io::{self, Read, Write};
+use std::net::{Shutdown, TcpListener};
+use std::path::{Path, PathBuf};
 use std::process::Command;
-use std::{env, fs};
+use std::{env, fs, thread};
 
-#[test]
-fn the_program_of_the_readme_builds() {
+/// The program, built without a warning over this crate.
+fn built() -> PathBuf {
     let here = Path::new(env!("CARGO_MANIFEST_DIR"));
-    let readme = fs::read_to_string(here.join("../../README.md")).unwrap_or_default();
-    let Some((_, section)) = readme.split_once("# Use it from Rust\n") else {
-        println!("the README has no program in Rust");
-        return;
-    };
+    let readme = fs::read_to_string(here.join("../../README.md")).expect("there is a README");
+    let (_, section) = readme.split_once("# Use it from Rust\n").expect("the README has a section for Rust");
     let (_, block) = section.split_once("```rust\n").expect("the section has a Rust block");
     let (program, _) = block.split_once("```").expect("the block has an end");
     let folder = Path::new(env!("CARGO_TARGET_TMPDIR")).join("readme");
@@ -28,4 +27,30 @@ fn the_program_of_the_readme_builds() {
         .status()
         .unwrap();
     assert!(status.success());
+    folder.join("target/debug/readme")
+}
+
+/// A proxy for one client: its last reply and the stream go in one write. Answers what the client sent through it.
+fn served(listener: TcpListener, stream: &[u8]) -> io::Result<Vec<u8>> {
+    let (mut client, _) = listener.accept()?;
+    client.read_exact(&mut [0; 3])?; // the greeting
+    client.write_all(&[5, 0])?;
+    client.read_exact(&mut [0; 18])?; // the connect request, with an 11-byte name
+    client.write_all(&[b"\x05\x00\x00\x01\xc0\x00\x02\x07\x1f\x90", stream].concat())?;
+    client.shutdown(Shutdown::Write)?;
+    let mut through = Vec::new();
+    client.read_to_end(&mut through)?;
+    Ok(through)
+}
+
+#[test]
+fn the_program_of_the_readme_runs() {
+    const STREAM: &[u8] = b"HTTP/1.0 204 No Content\r\n\r\n";
+    let program = built();
+    let listener = TcpListener::bind("127.0.0.1:1080").expect("the README's proxy is at 127.0.0.1:1080");
+    let proxy = thread::spawn(move || served(listener, STREAM));
+    let output = Command::new(program).output().unwrap();
+    assert!(output.status.success());
+    assert_eq!(output.stdout, STREAM);
+    assert_eq!(proxy.join().unwrap().unwrap(), b"HEAD / HTTP/1.0\r\nHost: example.com\r\n\r\n");
 }
