@@ -11,19 +11,21 @@ ghost use Rattle.raw_numbers.specs.Numbers.{truth};
 ghost use Rattle.raw_session.specs.Raw.{sessionOf};
 ghost use Rattle.raw_server.specs.Raw.{serverOf, standingOf};
 ghost use Rattle.raw_openings.specs.Given.{given5, given4, preparedStep};
-ghost use Rattle.raw_calls.specs.Calls.{rawOutcome, rawBound, stepBy, Says, Tells};
-ghost use Rattle.raw_proxy.specs.Calls.{recordOf, setUpServed, servedBy, Serves, targetOf};
+ghost use Rattle.raw_calls.specs.Calls.{stepBy, Says};
+ghost use Rattle.raw_told.specs.Told.{rawOutcome, rawBound, Tells};
+ghost use Rattle.raw_proxy.specs.Calls.{recordOf, setUpServed, servedBy, Serves};
+ghost use Rattle.raw_asked.specs.Asked.{targetOf};
 ghost use Rattle.talk.specs.Tunnel.{rest};
-use raw_calls::RawAddress;
-use raw_calls::RawText;
+use raw_asked::RawTarget;
 use raw_openings::RawConfig;
 use raw_proxy::RawRecord;
-use raw_proxy::RawTarget;
 use raw_server::RawServed;
 use raw_server::RawServer;
 use raw_session::RawOutcome;
 use raw_session::RawSession;
 use raw_session::RawStep;
+use raw_told::RawAddress;
+use raw_told::RawText;
 
 // Prepares a session over SOCKS5. A port above 65535 is none. `records` is an array of records, of 17 bytes each.
 #[no_mangle]
@@ -86,7 +88,7 @@ pub extern "C" fn gitaymba_end(session: RawSession) -> RawStep
 pub extern "C" fn gitaymba_outcome(session: RawSession) -> RawOutcome
     ensures { λ r. ⌜ r ≡ rawOutcome session ⌝ }
 {
-    raw_calls::outcome(session)
+    raw_told::outcome(session)
 }
 
 // The address and port that the proxy bound; of a session that is not open IPv4 zeros and port 0.
@@ -94,7 +96,7 @@ pub extern "C" fn gitaymba_outcome(session: RawSession) -> RawOutcome
 pub extern "C" fn gitaymba_bound(session: RawSession) -> RawAddress
     ensures { λ r. ⌜ r ≡ rawBound session ⌝ }
 {
-    raw_calls::bound(session)
+    raw_told::bound(session)
 }
 
 // The bound address as text, at the buffer's start. Refused if the session is not open.
@@ -103,7 +105,7 @@ pub extern "C" fn gitaymba_bound_text(session: RawSession, text: &mut [u8; 261])
     ensures { λ r. ⌜ Tells (writeBound (sessionOf session) (now (text .entry))) r (now (text .exit)) ⌝ }
     ensures { λ r. ⌜ (r .answer ≡ 18 → ⊥) ⌝ }
 {
-    raw_calls::bound_text(session, text)
+    raw_told::bound_text(session, text)
 }
 
 // For each accepted delivery of a nonempty piece the replies decided in it, and one more if it ended waiting.
@@ -111,7 +113,7 @@ pub extern "C" fn gitaymba_bound_text(session: RawSession, text: &mut [u8; 261])
 pub extern "C" fn gitaymba_attempts(session: RawSession) -> u64
     ensures { λ r. ⌜ r ≡ session .attempts ⌝ }
 {
-    session.attempts
+    raw_told::attempts(session)
 }
 
 // How many bytes of a piece follow its first ones: the rest is that many bytes at the piece's end.
@@ -119,7 +121,7 @@ pub extern "C" fn gitaymba_attempts(session: RawSession) -> u64
 pub extern "C" fn gitaymba_rest(piece: &[u8], count: usize) -> usize
     ensures { λ r. ⌜ r ≡ length (rest (now (piece .entry)) count) ⌝ }
 {
-    wire::rest(piece, count).len()
+    raw_told::rest(piece, count)
 }
 
 // Sets up a proxy's end, with credentials unless `authenticates` is 0.
@@ -173,7 +175,7 @@ pub extern "C" fn gitaymba_proxy_end(server: RawServer) -> RawServed
 pub extern "C" fn gitaymba_proxy_outcome(server: RawServer) -> RawOutcome
     ensures { λ r. ⌜ r ≡ standingOf (serverOf server .stage) ⌝ }
 {
-    raw_proxy::outcome(server)
+    raw_asked::outcome(server)
 }
 
 // The destination that was handed out; of an end that neither awaits the caller's answer nor is open IPv4 zeros and port 0.
@@ -181,7 +183,7 @@ pub extern "C" fn gitaymba_proxy_outcome(server: RawServer) -> RawOutcome
 pub extern "C" fn gitaymba_proxy_destination(server: RawServer) -> RawTarget
     ensures { λ r. ⌜ r ≡ targetOf (destination (serverOf server)) ⌝ }
 {
-    raw_proxy::destination(server)
+    raw_asked::destination(server)
 }
 
 // The number of this interface. It changes with any layout, number or signature of it.

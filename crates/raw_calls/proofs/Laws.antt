@@ -1,35 +1,23 @@
 -- What the calls make, in numbers.
-use Prim.Native.Nat.{ℕ, _≤_}
-use native.Mathlib.Omega.{arith}
+use Prim.Native.Nat.{ℕ}
 use mathlib.Core.Path.{_≡_, refl, ap, subst, _∙_}
 use mathlib.Core.Bool.{Bool, true, false, cond, not}
 use mathlib.Core.List.{List, []}
 use lib.Dec.{leb}
 use lib.ListN.{length}
-use Rattle.protocol.specs.declared.Address.{Address}
 use Rattle.protocol.specs.declared.Answer.the-variants.{Accepted}
-use Rattle.protocol.specs.declared.Outcome.{Outcome}
-use Rattle.protocol.specs.declared.SocksError.the-variants.{ShortOutput, UnexpectedEof, Settled, NotOpen, OutOfOrder}
-use Rattle.protocol.specs.Numbers.{answerNumber}
-use Rattle.bound_text.specs.declared.Written.{Written}
-use Rattle.bound_text.specs.Text.{boundText}
-use Rattle.bound_text.specs.Written.{unwritten, writeText, Writes}
-use Rattle.stages.specs.Told.{isOpen}
+use Rattle.protocol.specs.declared.SocksError.the-variants.{ShortOutput, UnexpectedEof, Settled, OutOfOrder}
 use Rattle.session.specs.declared.Session.{Session}
 use Rattle.session.specs.declared.Started.{Started}
 use Rattle.session.specs.declared.Delivered.{Delivered}
 use Rattle.session.specs.declared.Ended.{Ended}
-use Rattle.session.specs.Session.{view, packed, outcome, bound, writeBound, firstRoomAt, firstAt}
+use Rattle.session.specs.Session.{view, packed, firstRoomAt, firstAt}
 use Rattle.session.specs.Calls.{Call, refusal, Starts, Delivers, endedBy, starts, start, deliver, end}
-use Rattle.raw_numbers.specs.Numbers.{kindNumber}
 use Rattle.raw_session.specs.declared.RawSession.{RawSession}
-use Rattle.raw_session.specs.declared.RawOutcome.{RawOutcome}
 use Rattle.raw_session.specs.declared.RawStep.{RawStep}
-use Rattle.raw_session.specs.Raw.{sessionOf, outcomeOf, stepOf}
+use Rattle.raw_session.specs.Raw.{sessionOf, stepOf}
 use Rattle.talk.specs.Talk.{failed, ended, isOver}
-use Rattle.raw_calls.specs.declared.RawAddress.{RawAddress}
-use Rattle.raw_calls.specs.declared.RawText.{RawText}
-use Rattle.raw_calls.specs.Calls.{rawOutcome, addressOf, rawBound, stepBy, Says, Tells}
+use Rattle.raw_calls.specs.Calls.{stepBy, Says}
 
 -- a start uses nothing, and an end sends nothing either
 module _ (s : Session) where
@@ -73,29 +61,3 @@ module _ (raw : RawSession) {s : Session} (e : s ≡ sessionOf raw) where
 
   pub says-ended : {d : Ended} {r : RawStep} → d ≡ endedBy (end s) → r ≡ stepOf (d .answer) (d .session) 0 0 → r ≡ stepBy (end (sessionOf raw))
   says-ended h q = q ∙ ap (λ (x : Ended). stepOf (x .answer) (x .session) 0 0) (h ∙ ap (λ (t : Session). endedBy (end t)) e) ∙ end-step (sessionOf raw)
-
-  pub says-outcome : {o : Outcome} {r : RawOutcome} → o ≡ outcome s → r ≡ outcomeOf o → r ≡ rawOutcome raw
-  says-outcome p q = q ∙ ap outcomeOf (p ∙ ap outcome e)
-
-  pub says-bound : {a : Address} {k : ℕ} → a ≡ bound s → k ≡ kindNumber (a .kind) → _≡_ {A = RawAddress} (record { port = a .port; kind = k; len = a .len; bytes = a .bytes }) (rawBound raw)
-  says-bound {a} {k} p q = ap (λ (n : ℕ). record { port = a .port; kind = n; len = a .len; bytes = a .bytes }) q ∙ ap addressOf (p ∙ ap bound e)
-
-  -- a text has at most 261 bytes
-  pub says-fits : (text text′ : List ℕ) (w : Written) {x : ℕ} → Writes (writeBound s text) w text′ → (isOpen (s .stage) ≡ true → 261 ≤ length text → w .answer ≡ Accepted) → x ≡ answerNumber (w .answer)
-      → 261 ≤ length text → x ≡ 18 → ⊥
-  unfolding writeBound
-  says-fits text text′ w {x} h f q l z = go (isOpen (s .stage)) refl
-    where
-      go : (b : Bool) → isOpen (s .stage) ≡ b → ⊥
-      go true o = let n : answerNumber (w .answer) ≡ 0 = ap answerNumber (f o l) in omega (arith, q, z, n)
-      go false o =
-          let n : answerNumber (w .answer) ≡ 17 = ap (λ (v : Written). answerNumber (v .answer)) (h .returned) ∙ ap (λ (b : Bool). answerNumber (cond b (writeText (boundText (bound s)) text) (unwritten NotOpen text) .answer)) o in
-          omega (arith, q, z, n)
-
-  pub says-text : (text text′ : List ℕ) (w : Written) {x : ℕ} → Writes (writeBound s text) w text′ → x ≡ answerNumber (w .answer) → Tells (writeBound (sessionOf raw) text) (record { len = w .len; answer = x }) text′
-  says-text text text′ w h q =
-      let g : Writes (writeBound (sessionOf raw) text) w text′ = subst (λ (t : Session). Writes (writeBound t text) w text′) e h in
-      record {
-        returned = ap (λ (n : ℕ). record { len = w .len; answer = n }) q ∙ ap (λ (v : Written). record { len = v .len; answer = answerNumber (v .answer) }) (g .returned);
-        buffer = g .buffer;
-      }

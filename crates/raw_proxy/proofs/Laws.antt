@@ -7,24 +7,21 @@ use Rattle.protocol.specs.declared.Answer.the-variants.{Accepted}
 use Rattle.protocol.specs.declared.Family.{Family}
 use Rattle.protocol.specs.declared.Record.{Record}
 use Rattle.protocol.specs.declared.SocksError.the-variants.{UnexpectedEof, Settled}
-use Rattle.destinations.specs.declared.Target.{Target}
 use Rattle.serving_replies.specs.Replies.{endpointOf}
 use Rattle.proxy_calls.specs.declared.Server.{Server}
 use Rattle.proxy_calls.specs.declared.SetUp.{SetUp}
 use Rattle.proxy_calls.specs.declared.Delivered.{Delivered}
 use Rattle.proxy_calls.specs.declared.Answered.{Answered}
 use Rattle.proxy_calls.specs.declared.Ended.{Ended}
-use Rattle.proxy_calls.specs.Server.{view, packed, destination}
+use Rattle.proxy_calls.specs.Server.{view, packed}
 use Rattle.proxy_calls.specs.Calls.{Call, refusal, Delivers, Answers, endedBy, setUp, deliver, answer, end}
-use Rattle.raw_numbers.specs.Numbers.{truth, kindNumber, familyOf}
-use Rattle.raw_session.specs.declared.RawOutcome.{RawOutcome}
+use Rattle.raw_numbers.specs.Numbers.{truth, familyOf}
 use Rattle.raw_server.specs.declared.RawServer.{RawServer}
 use Rattle.raw_server.specs.declared.RawServed.{RawServed}
-use Rattle.raw_server.specs.Raw.{serverOf, standingOf, servedOf}
+use Rattle.raw_server.specs.Raw.{serverOf, servedOf}
 use Rattle.talk.specs.Talk.{failed, ended, isOver}
 use Rattle.raw_proxy.specs.declared.RawRecord.{RawRecord}
-use Rattle.raw_proxy.specs.declared.RawTarget.{RawTarget}
-use Rattle.raw_proxy.specs.Calls.{recordOf, setUpServed, servedBy, Serves, targetOf}
+use Rattle.raw_proxy.specs.Calls.{recordOf, setUpServed, servedBy, Serves}
 
 pub record-as : (r : RawRecord) {f : Family} → f ≡ familyOf (r .kind) → _≡_ {A = Record} (record { family = f; address = r .address }) (recordOf r)
 record-as r e = λ i. record { family = e i; address = r .address }
@@ -62,9 +59,3 @@ module _ (raw : RawServer) {s : Server} (e : s ≡ serverOf raw) where
 
   pub says-ended : {d : Ended} {r : RawServed} → d ≡ endedBy (end s) → r ≡ servedOf (d .answer) (d .server) 0 0 → r ≡ servedBy (end (serverOf raw))
   says-ended h q = q ∙ ap (λ (x : Ended). servedOf (x .answer) (x .server) 0 0) (h ∙ ap (λ (t : Server). endedBy (end t)) e) ∙ end-served (serverOf raw)
-
-  pub says-standing : {r : RawOutcome} → r ≡ standingOf (s .stage) → r ≡ standingOf (serverOf raw .stage)
-  says-standing q = q ∙ ap (λ (t : Server). standingOf (t .stage)) e
-
-  pub says-target : {t : Target} {k : ℕ} → t ≡ destination s → k ≡ kindNumber (t .kind) → _≡_ {A = RawTarget} (record { len = t .len; port = t .port; kind = k; bytes = t .bytes }) (targetOf (destination (serverOf raw)))
-  says-target {t} {k} p q = ap (λ (n : ℕ). record { len = t .len; port = t .port; kind = n; bytes = t .bytes }) q ∙ ap targetOf (p ∙ ap destination e)

@@ -3,24 +3,15 @@ use Prim.Native.Nat.{ℕ}
 use mathlib.Core.Path.{_≡_}
 use mathlib.Core.List.{List}
 use Rattle.protocol.specs.declared.Record.{Record}
-use Rattle.destinations.specs.declared.Target.{Target}
 use Rattle.proxy_calls.specs.declared.SetUp.{SetUp}
 use Rattle.proxy_calls.specs.Calls.{Call}
-use Rattle.raw_numbers.specs.Numbers.{kindNumber, familyOf}
+use Rattle.raw_numbers.specs.Numbers.{familyOf}
 use Rattle.raw_server.specs.declared.RawServed.{RawServed}
 use Rattle.raw_server.specs.Raw.{servedOf}
 use Rattle.raw_proxy.specs.declared.RawRecord.{RawRecord}
-use Rattle.raw_proxy.specs.declared.RawTarget.{RawTarget}
-
--- ---- what is given and told
 
 abbrev pub recordOf : RawRecord → Record
 recordOf r = record { family = familyOf (r .kind); address = r .address }
-
-abbrev pub targetOf : Target → RawTarget
-targetOf t = record { len = t .len; port = t .port; kind = kindNumber (t .kind); bytes = t .bytes }
-
--- ---- what a call returns and leaves in the output, as a call says
 
 abbrev pub setUpServed : SetUp → RawServed
 setUpServed u = servedOf (u .answer) (u .server) 0 0
@@ -28,6 +19,7 @@ setUpServed u = servedOf (u .answer) (u .server) 0 0
 abbrev pub servedBy : Call → RawServed
 servedBy c = servedOf (c .answer) (c .session) (c .used) (c .sent)
 
+-- what a call returns, and leaves in the output
 pub record Serves (c : Call) (r : RawServed) (out′ : List ℕ) : Type 0 where
   pub returned : r ≡ servedBy c
   pub output : out′ ≡ c .output

@@ -1,34 +1,22 @@
-// The calls on a proxy's end of numbers and arrays, each the library's on the end that they mean.
+// The calls that move a proxy's end of numbers and arrays, each the library's on the end that they mean.
 ghost use mathlib.Core.Path.{_≡_};
 ghost use Rattle.serving_replies.specs.Replies.{endpointOf};
-ghost use Rattle.proxy_calls.specs.Server.{destination};
 ghost use Rattle.proxy_calls.specs.Calls.{setUp, deliver, answer, end};
 ghost use Rattle.raw_numbers.specs.Numbers.{truth};
-ghost use Rattle.raw_server.specs.Raw.{serverOf, standingOf};
-ghost use Rattle.raw_proxy.specs.Calls.{recordOf, setUpServed, servedBy, Serves, targetOf};
+ghost use Rattle.raw_server.specs.Raw.{serverOf};
+ghost use Rattle.raw_proxy.specs.Calls.{recordOf, setUpServed, servedBy, Serves};
 use protocol::Record;
 use raw_numbers::family_of;
-use raw_numbers::kind_number;
 use raw_numbers::truth;
 use raw_server::RawServed;
 use raw_server::RawServer;
 use raw_server::served;
 use raw_server::server_of;
-use raw_server::standing_of;
-use raw_session::RawOutcome;
 
 #[repr(C)]
 pub struct RawRecord {
     pub kind: u8,
     pub address: [u8; 16],
-}
-
-#[repr(C)]
-pub struct RawTarget {
-    pub len: usize,
-    pub port: u16,
-    pub kind: u8,
-    pub bytes: [u8; 1014],
 }
 
 fn record_of(raw: RawRecord) -> Record
@@ -88,29 +76,4 @@ pub fn end(server: RawServer) -> RawServed
     let answer = made.answer;
     let after = made.server;
     served(answer, after, 0, 0)
-}
-
-// How an end stands.
-pub fn outcome(server: RawServer) -> RawOutcome
-    ensures { λ r. ⌜ r ≡ standingOf (serverOf server .stage) ⌝ }
-{
-    let before = server_of(server);
-    let stage = before.stage;
-    standing_of(stage)
-}
-
-// The destination that was handed out; of an end that neither awaits the caller's answer nor is open IPv4 zeros and port 0.
-pub fn destination(server: RawServer) -> RawTarget
-    ensures { λ r. ⌜ r ≡ targetOf (destination (serverOf server)) ⌝ }
-{
-    let before = server_of(server);
-    let target = before.destination();
-    let kind = target.kind;
-    let bytes = target.bytes;
-    RawTarget {
-        len: target.len,
-        port: target.port,
-        kind: kind_number(kind),
-        bytes: bytes,
-    }
 }

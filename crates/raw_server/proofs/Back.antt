@@ -7,8 +7,9 @@ use Rattle.serving.specs.declared.Field.the-variants.{First, Methods, User, Pas
 use Rattle.serving.specs.declared.Stage.{Stage}
 use Rattle.serving.specs.declared.Stage.the-variants.{Awaiting, Asked, Open, Failed}
 use Rattle.proxy_calls.specs.declared.Server.{Server}
-use Rattle.raw_numbers.specs.Numbers.{errorOf, errorAmong}
-use Rattle.raw_numbers.proofs.Back.{bit-back, kind-back, error-back}
+use Rattle.raw_errors.specs.Errors.{errorOf, errorAmong}
+use Rattle.raw_numbers.proofs.Back.{bit-back, kind-back}
+use Rattle.raw_errors.proofs.Back.{error-back}
 use Rattle.raw_server.proofs.Laws.{server-as}
 use Rattle.raw_server.specs.Raw.{awaitedOf, stageOf, stageNumbers, serverOf, rawOf, zeros}
 

@@ -14,7 +14,8 @@ use Rattle.serving.specs.declared.Stage.{Stage}
 use Rattle.serving.specs.declared.Stage.the-variants.{Awaiting, Asked, Open, Failed}
 use Rattle.serving.specs.End.{success}
 use Rattle.proxy_calls.specs.declared.Server.{Server}
-use Rattle.raw_numbers.specs.Numbers.{truth, bit, kindOf, kindNumber, errorOf}
+use Rattle.raw_numbers.specs.Numbers.{truth, bit, kindOf, kindNumber}
+use Rattle.raw_errors.specs.Errors.{errorOf}
 use Rattle.raw_session.specs.declared.RawOutcome.{RawOutcome}
 use Rattle.raw_server.specs.declared.RawStage.{RawStage}
 use Rattle.raw_server.specs.declared.RawServer.{RawServer}

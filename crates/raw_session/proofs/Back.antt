@@ -6,8 +6,9 @@ use Rattle.protocol.specs.declared.SocksError.the-variants.{Settled}
 use Rattle.sending.specs.declared.Stage.{Stage}
 use Rattle.sending.specs.declared.Stage.the-variants.{Awaiting, Open, Failed}
 use Rattle.session.specs.declared.Session.{Session}
-use Rattle.raw_numbers.specs.Numbers.{errorOf, errorAmong}
-use Rattle.raw_numbers.proofs.Back.{bit-back, kind-back, error-back}
+use Rattle.raw_errors.specs.Errors.{errorOf, errorAmong}
+use Rattle.raw_numbers.proofs.Back.{bit-back, kind-back}
+use Rattle.raw_errors.proofs.Back.{error-back}
 use Rattle.raw_session.proofs.Laws.{requests-as, session-as}
 use Rattle.raw_session.specs.Raw.{stageOf, stageNumber, stageError, stageStatus, sessionOf, rawOf, zeros}
 

@@ -16,7 +16,8 @@ use Rattle.sending.specs.declared.Stage.the-variants.{Awaiting, Open, Failed}
 use Rattle.sending.specs.declared.Requests.{Requests}
 use Rattle.session.specs.declared.Session.{Session}
 use Rattle.session.specs.Session.{outcome}
-use Rattle.raw_numbers.specs.Numbers.{truth, bit, kindOf, kindNumber, errorOf}
+use Rattle.raw_numbers.specs.Numbers.{truth, bit, kindOf, kindNumber}
+use Rattle.raw_errors.specs.Errors.{errorOf}
 use Rattle.raw_session.specs.declared.RawSession.{RawSession}
 use Rattle.raw_session.specs.declared.RawOutcome.{RawOutcome}
 use Rattle.raw_session.specs.declared.RawStep.{RawStep}

@@ -19,10 +19,11 @@ use Rattle.proxy_calls.specs.Server.{heldBytes, askedFor, destination}
 use Rattle.proxy_calls.specs.Calls.{setUp, deliver, answer, end, receiver}
 use Rattle.proxy.specs.Served.{outcomeBy, targetBy, Served}
 use Rattle.proxy.proofs.Tunnels.{all-served}
-use Rattle.raw_numbers.specs.Numbers.{truth, errorAmong, errorOf}
+use Rattle.raw_numbers.specs.Numbers.{truth}
+use Rattle.raw_errors.specs.Errors.{errorOf, errorAmong}
 use Rattle.raw_server.specs.Raw.{stageOf, rawOf, standingOf}
 use Rattle.raw_server.proofs.Back.{server-back}
-use Rattle.raw_proxy.specs.Calls.{targetOf}
+use Rattle.raw_asked.specs.Asked.{targetOf}
 use Rattle.raw_tunnel.specs.Demand3.{Lent}
 use Rattle.raw_tunnel.specs.Served as raw
 use Rattle.raw_tunnel.specs.Served.{returned, rawStanding, rawTarget, standingNumbers, RawServed3, RawServing, Zeros}

@@ -28,7 +28,7 @@ use Rattle.raw_session.specs.Raw.{rawOf, outcomeOf}
 use Rattle.raw_session.proofs.Back.{session-back}
 use Rattle.raw_records.proofs.Sixteen.{sixteen}
 use Rattle.raw_openings.specs.Given.{given5, given4, preparedStep}
-use Rattle.raw_calls.specs.Calls.{rawOutcome, addressOf, rawBound}
+use Rattle.raw_told.specs.Told.{rawOutcome, addressOf, rawBound}
 use Rattle.raw_tunnel.specs.Demand3 as raw
 use Rattle.raw_tunnel.specs.Demand3.{returned, Lent, RawDemand3, RawTunnelled, RawTunnelled5, RawTunnelled4}
 use Rattle.raw_tunnel.proofs.Turns.{enough}

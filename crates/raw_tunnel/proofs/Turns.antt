@@ -22,7 +22,8 @@ use Rattle.sending.specs.Stages.{SideSession}
 use Rattle.session.specs.Session.{view, firstRoomAt, roomAt, writeBound}
 use Rattle.session.specs.Calls.{Call, refusal, start, deliver, end}
 use Rattle.socks.proofs.Refusals as refusals
-use Rattle.raw_numbers.specs.Numbers.{truth, errorOf, errorAmong}
+use Rattle.raw_numbers.specs.Numbers.{truth}
+use Rattle.raw_errors.specs.Errors.{errorOf, errorAmong}
 use Rattle.raw_session.specs.declared.RawSession.{RawSession}
 use Rattle.raw_session.specs.Raw.{sessionOf, rawOf, outcomeOf, stageOf}
 use Rattle.raw_tunnel.specs.Demand3.{returned}

@@ -16,7 +16,8 @@ use Rattle.raw_session.specs.Raw.{sessionOf, outcomeOf}
 use Rattle.raw_session.specs.declared.RawStep.{RawStep}
 use Rattle.raw_openings.specs.declared.RawConfig.{RawConfig}
 use Rattle.raw_openings.specs.Given.{given5, given4, preparedStep}
-use Rattle.raw_calls.specs.Calls.{rawOutcome, addressOf, rawBound, stepBy}
+use Rattle.raw_calls.specs.Calls.{stepBy}
+use Rattle.raw_told.specs.Told.{rawOutcome, addressOf, rawBound}
 use Rattle.talk.specs.Tunnel.{Answer, Receiver, Delivery, joined, Tunnel, tunnel}
 
 -- what a call gives back: what the exported function returns, and the output that it leaves

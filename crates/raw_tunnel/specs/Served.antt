@@ -14,8 +14,9 @@ use Rattle.raw_numbers.specs.Numbers.{truth}
 use Rattle.raw_session.specs.declared.RawOutcome.{RawOutcome}
 use Rattle.raw_server.specs.declared.RawServer.{RawServer}
 use Rattle.raw_server.specs.Raw.{serverOf, standingOf, zeros}
-use Rattle.raw_proxy.specs.declared.RawTarget.{RawTarget}
-use Rattle.raw_proxy.specs.Calls.{setUpServed, servedBy, targetOf}
+use Rattle.raw_asked.specs.declared.RawTarget.{RawTarget}
+use Rattle.raw_proxy.specs.Calls.{setUpServed, servedBy}
+use Rattle.raw_asked.specs.Asked.{targetOf}
 use Rattle.raw_tunnel.specs.Demand3.{Lent}
 use Rattle.talk.specs.Tunnel.{Answer, Receiver, Delivery, joined, Tunnel, tunnel}
 

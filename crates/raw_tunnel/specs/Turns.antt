@@ -9,7 +9,7 @@ use Rattle.session.specs.Calls.{end}
 use Rattle.raw_session.specs.declared.RawSession.{RawSession}
 use Rattle.raw_session.specs.Raw.{sessionOf, rawOf, zeros}
 use Rattle.protocol.specs.Numbers.{answerNumber}
-use Rattle.raw_calls.specs.Calls.{rawOutcome}
+use Rattle.raw_told.specs.Told.{rawOutcome}
 use Rattle.raw_tunnel.specs.Demand3.{returned, rawStart, rawDeliver}
 use Rattle.talk.specs.Tunnel.{Answer}
 

@@ -36,7 +36,6 @@ eights : (t : ℕ) → (c : plan-lts.Start (
 ) (plan-at t) plan.Post) → (length (c .args .proxies) ≡ 8) × (length (c .args .hops) ≡ 8)
 eights t c = (search needs, search needs)
 
--- src/lib.rt:173:9
 plan-prepare-at-requires : (t : ℕ) → plan-lts.Need-prepare-at-requires (
   prepare-at-reads.Asked,
   prepare-at-reads.Learnt,
@@ -49,7 +48,6 @@ plan-prepare-at-requires : (t : ℕ) → plan-lts.Need-prepare-at-requires (
 ) (plan-at t) plan.Post
 plan-prepare-at-requires t c κs = let (l, (m, w)) = c .before .before .before .pre .1 in (l, m)
 
--- src/lib.rt:176:27
 plan-sub-keep : (t : ℕ) → plan-lts.Need-sub-keep (
   prepare-at-reads.Asked,
   prepare-at-reads.Learnt,
@@ -62,7 +60,6 @@ plan-sub-keep : (t : ℕ) → plan-lts.Need-sub-keep (
 ) (plan-at t) plan.Post
 plan-sub-keep t c = let (l, (m, w)) = c .before .before .before .before .before .pre .1 in omega arith
 
--- src/lib.rt:176:27
 plan-sub-keep-2 : (t : ℕ) → plan-lts.Need-sub-keep-2 (
   prepare-at-reads.Asked,
   prepare-at-reads.Learnt,
@@ -75,7 +72,6 @@ plan-sub-keep-2 : (t : ℕ) → plan-lts.Need-sub-keep-2 (
 ) (plan-at t) plan.Post
 plan-sub-keep-2 t c = let (l, (m, w)) = c .before .before .before .before .before .pre .1 in omega arith
 
--- src/lib.rt:176:9
 plan-keep-requires : (t : ℕ) → plan-lts.Need-keep-requires (
   prepare-at-reads.Asked,
   prepare-at-reads.Learnt,
@@ -88,7 +84,6 @@ plan-keep-requires : (t : ℕ) → plan-lts.Need-keep-requires (
 ) (plan-at t) plan.Post
 plan-keep-requires t c κs = let (l, (m, w)) = c .before .before .before .before .before .before .pre .1 in (omega arith, w)
 
--- src/lib.rt:177:21
 plan-add-ends : (t : ℕ) → plan-lts.Need-add-ends (
   prepare-at-reads.Asked,
   prepare-at-reads.Learnt,
@@ -101,7 +96,6 @@ plan-add-ends : (t : ℕ) → plan-lts.Need-add-ends (
 ) (plan-at t) plan.Post
 plan-add-ends t c = search needs
 
--- src/lib.rt:177:8
 plan-ends-requires : (t : ℕ) → plan-lts.Need-ends-requires (
   prepare-at-reads.Asked,
   prepare-at-reads.Learnt,
@@ -114,7 +108,6 @@ plan-ends-requires : (t : ℕ) → plan-lts.Need-ends-requires (
 ) (plan-at t) plan.Post
 plan-ends-requires t c κs = search needs
 
--- src/lib.rt:178:9
 plan-same-length : (t : ℕ) → plan-lts.Need-same-length (
   prepare-at-reads.Asked,
   prepare-at-reads.Learnt,
@@ -127,7 +120,6 @@ plan-same-length : (t : ℕ) → plan-lts.Need-same-length (
 ) (plan-at t) plan.Post
 plan-same-length t c = search needs
 
--- src/lib.rt:178:9
 plan-returns : (t : ℕ) → plan-lts.Need-returns (
   prepare-at-reads.Asked,
   prepare-at-reads.Learnt,
@@ -146,7 +138,6 @@ plan-returns t c =
     let k = c .before .before .before .before .keep .ensures in
     plan-stops (a .proxies) (eights t start .0) (a .at) (a .count) l m (a .text .now) (a .host .now) (a .port) (a .hops) (a .bytes .now) (eights t start .1) w (p .result) (p .ensures) (k .0) (k .1 .0) (k .1 .1) (sym (c .before .ends .ensures) ∙ c .if1 .taken)
 
--- src/lib.rt:183:19
 plan-add-plan : (t : ℕ) → plan-lts.Need-add-plan (
   prepare-at-reads.Asked,
   prepare-at-reads.Learnt,
@@ -159,7 +150,6 @@ plan-add-plan : (t : ℕ) → plan-lts.Need-add-plan (
 ) (plan-at t) plan.Post
 plan-add-plan t c = search needs
 
--- src/lib.rt:183:5
 plan-plan-requires : (t : ℕ) → plan-lts.Need-plan-requires (
   prepare-at-reads.Asked,
   prepare-at-reads.Learnt,
@@ -179,7 +169,6 @@ plan-plan-requires t c κs =
     let z = plan-goes (a .proxies) (eights t start .0) (a .at) (a .count) l m (a .text .now) (a .host .now) (a .port) (a .hops) (a .bytes .now) (eights t start .1) w (p .result) (p .ensures) (k .0) (k .1 .0) (k .1 .1) (sym (c .before .before .ends .ensures) ∙ c .before .if1 .left) in
     (omega (arith, start .pre .0, z), (z, (m, search needs)))
 
--- src/lib.rt:160:1
 plan-same-length-2 : (t : ℕ) → plan-lts.Need-same-length-2 (
   prepare-at-reads.Asked,
   prepare-at-reads.Learnt,
@@ -192,7 +181,6 @@ plan-same-length-2 : (t : ℕ) → plan-lts.Need-same-length-2 (
 ) (plan-at t) plan.Post
 plan-same-length-2 t c = search needs
 
--- src/lib.rt:160:1
 plan-returns-2 : (t : ℕ) → plan-lts.Need-returns-2 (
   prepare-at-reads.Asked,
   prepare-at-reads.Learnt,

@@ -2,19 +2,15 @@ use borrow.Author.Needs.{needs}
 use Rattle.planning.proofs.ends.Statement.{statement}
 use Rattle.planning.proofs.ends.Tie as tie
 
--- src/lib.rt:154:29
 enum-told : tie.Need-enum-told
 enum-told c = search needs
 
--- src/lib.rt:155:25
 enum-known-answer : tie.Need-enum-known-answer
 enum-known-answer c = search needs
 
--- src/lib.rt:150:1
 returns : tie.Need-returns
 returns c = rw (c .enum-told .given .1)
 
--- src/lib.rt:150:1
 returns-2 : tie.Need-returns-2
 returns-2 c = rw (c .before .answer .given .1)
 

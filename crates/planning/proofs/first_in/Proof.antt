@@ -2,27 +2,21 @@ use borrow.Author.Needs.{needs}
 use Rattle.planning.proofs.first_in.Statement.{statement}
 use Rattle.planning.proofs.first_in.Tie as tie
 
--- src/lib.rt:120:25
 enum-known-stage : tie.Need-enum-known-stage
 enum-known-stage c = search needs
 
--- src/lib.rt:121:24
 enum-told : tie.Need-enum-told
 enum-told c = search needs
 
--- src/lib.rt:122:23
 enum-known-stage-2 : tie.Need-enum-known-stage-2
 enum-known-stage-2 c = search needs
 
--- src/lib.rt:116:1
 returns : tie.Need-returns
 returns c = search needs
 
--- src/lib.rt:116:1
 returns-2 : tie.Need-returns-2
 returns-2 c = search needs
 
--- src/lib.rt:116:1
 returns-3 : tie.Need-returns-3
 returns-3 c = rw (c .before .stage2 .given .1)
 

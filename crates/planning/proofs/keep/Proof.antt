@@ -6,15 +6,12 @@ use borrow.Author.Needs.{needs}
 use Rattle.planning.proofs.keep.Statement.{statement}
 use Rattle.planning.proofs.keep.Tie as tie
 
--- src/lib.rt:135:17
 mul-copy : tie.Need-mul-copy
 mul-copy c = search needs
 
--- src/lib.rt:135:31
 slice-aggregate-copy : tie.Need-slice-aggregate-copy
 slice-aggregate-copy c = search needs
 
--- src/lib.rt:135:5
 bytes-long : (c : tie.Start) → length (c .args .session .requests .bytes) ≡ 1024
 bytes-long c = search needs
 
@@ -24,23 +21,18 @@ copy-requires c κs =
     let (few, whole) = start .pre in
     omega (arith, bytes-long start)
 
--- src/lib.rt:137:16
 first-in-requires : tie.Need-first-in-requires
 first-in-requires c κs = search needs
 
--- src/lib.rt:136:5
 mul-hops : tie.Need-mul-hops
 mul-hops c = search needs
 
--- src/lib.rt:136:5
 array-set-from-hops : tie.Need-array-set-from-hops
 array-set-from-hops c = search needs
 
--- src/lib.rt:127:1
 same-length : tie.Need-same-length
 same-length c = search needs
 
--- src/lib.rt:127:1
 returns : tie.Need-returns
 returns c =
     let start = c .before .before .before .before .before .before .before .before .before .before in

@@ -3,35 +3,27 @@ use borrow.Author.Needs.{needs}
 use Rattle.planning.proofs.part_of.Statement.{statement}
 use Rattle.planning.proofs.part_of.Tie as tie
 
--- src/lib.rt:46:9
 least-requires : tie.Need-least-requires
 least-requires c κs = search needs
 
--- src/lib.rt:47:29
 sub-least : tie.Need-sub-least
 sub-least c = search needs
 
--- src/lib.rt:47:9
 least-requires-2 : tie.Need-least-requires-2
 least-requires-2 c κs = search needs
 
--- src/lib.rt:48:15
 add-end : tie.Need-add-end
 add-end c = search needs
 
--- src/lib.rt:49:5
 sub-result : tie.Need-sub-result
 sub-result c = search needs
 
--- src/lib.rt:49:5
 part-result-start : tie.Need-part-result-start
 part-result-start c = search needs
 
--- src/lib.rt:49:5
 part-result-end : tie.Need-part-result-end
 part-result-end c = search needs
 
--- src/lib.rt:43:1
 returns : tie.Need-returns
 returns c =
     let a = c .before .before .before .before .args in

@@ -5,39 +5,30 @@ use borrow.Author.Needs.{needs}
 use Rattle.planning.proofs.prepare_at.Statement.{statement}
 use Rattle.planning.proofs.prepare_at.Tie as tie
 
--- src/lib.rt:105:17
 mul-proxy : tie.Need-mul-proxy
 mul-proxy c = search needs
 
--- src/lib.rt:105:17
 array-copy-out-proxy : tie.Need-array-copy-out-proxy
 array-copy-out-proxy c = search needs
 
--- src/lib.rt:106:8
 add-if1 : tie.Need-add-if1
 add-if1 c = search needs
 
--- src/lib.rt:107:28
 add-next : tie.Need-add-next
 add-next c = search needs
 
--- src/lib.rt:107:20
 mul-next : tie.Need-mul-next
 mul-next c = search needs
 
--- src/lib.rt:107:20
 array-copy-out-next : tie.Need-array-copy-out-next
 array-copy-out-next c = search needs
 
--- src/lib.rt:110:41
 part-of-requires : tie.Need-part-of-requires
 part-of-requires c κs = search needs
 
--- src/lib.rt:110:9
 prepare-for-requires : tie.Need-prepare-for-requires
 prepare-for-requires c κs = search needs
 
--- src/lib.rt:110:9
 eight : (c : tie.Start) → length (c .args .t1) ≡ 8
 eight c = search needs
 
@@ -48,11 +39,9 @@ returns c =
     let (l, m) = start .pre in
     prepares-next (a .t1) (eight start) (a .at) (a .count) m _ (c .before .before .before .before .if1 .taken) (a .text .now) (a .host .now) (a .port) (c .before .part-of .ensures) (c .prepare-for .ensures)
 
--- src/lib.rt:112:5
 prepare-for-requires-2 : tie.Need-prepare-for-requires-2
 prepare-for-requires-2 c κs = search needs
 
--- src/lib.rt:94:1
 returns-2 : tie.Need-returns-2
 returns-2 c =
     let start = c .before .before .before .before .before in

@@ -2,31 +2,24 @@ use borrow.Author.Needs.{needs}
 use Rattle.planning.proofs.prepare_for.Statement.{statement}
 use Rattle.planning.proofs.prepare_for.Tie as tie
 
--- src/lib.rt:89:52
 enum-told : tie.Need-enum-told
 enum-told c = search needs
 
--- src/lib.rt:89:52
 no-records-requires : tie.Need-no-records-requires
 no-records-requires c κs = search needs
 
--- src/lib.rt:89:24
 prepare4-requires : tie.Need-prepare4-requires
 prepare4-requires c κs = search needs
 
--- src/lib.rt:90:24
 enum-told-2 : tie.Need-enum-told-2
 enum-told-2 c = search needs
 
--- src/lib.rt:90:24
 prepare-v5-requires : tie.Need-prepare-v5-requires
 prepare-v5-requires c κs = search needs
 
--- src/lib.rt:84:1
 returns : tie.Need-returns
 returns c = rw (c .before .before .enum-told .given .1) (c .prepare4 .ensures)
 
--- src/lib.rt:84:1
 returns-2 : tie.Need-returns-2
 returns-2 c = rw (c .before .enum-told2 .given .1) (c .prepare-v5 .ensures)
 

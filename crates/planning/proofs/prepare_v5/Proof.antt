@@ -3,23 +3,18 @@ use borrow.Author.Needs.{needs}
 use Rattle.planning.proofs.prepare_v5.Statement.{statement}
 use Rattle.planning.proofs.prepare_v5.Tie as tie
 
--- src/lib.rt:75:9
 part-of-requires : tie.Need-part-of-requires
 part-of-requires c κs = search needs
 
--- src/lib.rt:76:9
 part-of-requires-2 : tie.Need-part-of-requires-2
 part-of-requires-2 c κs = search needs
 
--- src/lib.rt:77:9
 no-records-requires : tie.Need-no-records-requires
 no-records-requires c κs = search needs
 
--- src/lib.rt:71:5
 prepare5-requires : tie.Need-prepare5-requires
 prepare5-requires c κs = search needs
 
--- src/lib.rt:61:1
 returns : tie.Need-returns
 returns c =
     let a = c .before .before .before .before .before .before .before .before .args in

@@ -7,19 +7,15 @@ use borrow.Author.Needs.{needs}
 use Rattle.proxy_calls.proofs.credential_of.Statement.{statement}
 use Rattle.proxy_calls.proofs.credential_of.Tie as tie
 
--- src/lib.rt:74:10
 slice-aggregate-copy : tie.Need-slice-aggregate-copy
 slice-aggregate-copy c = search needs
 
--- src/lib.rt:74:5
 copy-requires : tie.Need-copy-requires
 copy-requires c κs = search needs
 
--- src/lib.rt:76:14
 cast-t7 : tie.Need-cast-t7
 cast-t7 c = search needs
 
--- src/lib.rt:69:1
 returns : tie.Need-returns
 returns c =
     let a = c .before .before .before .before in

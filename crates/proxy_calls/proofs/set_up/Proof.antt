@@ -5,47 +5,36 @@ use borrow.Author.Needs.{needs}
 use Rattle.proxy_calls.proofs.set_up.Statement.{statement}
 use Rattle.proxy_calls.proofs.set_up.Tie as tie
 
--- src/lib.rt:103:30
 slice-aggregate-credential-of : tie.Need-slice-aggregate-credential-of
 slice-aggregate-credential-of c = search needs
 
--- src/lib.rt:103:9
 credential-of-requires : tie.Need-credential-of-requires
 credential-of-requires c κs = search needs
 
--- src/lib.rt:104:8
 credentials-too-long-requires : tie.Need-credentials-too-long-requires
 credentials-too-long-requires c κs = search needs
 
--- src/lib.rt:108:21
 fresh-requires : tie.Need-fresh-requires
 fresh-requires c κs = search needs
 
--- src/lib.rt:106:9
 returns : tie.Need-returns
 returns c = set-refused (c .before .before .before .before .before .before .before .args .authenticates) (c .before .before .before .before .before .before .before .args .user .now) (c .before .before .before .before .before .before .before .args .password .now) (c .before .before .before .credential-of .ensures) (sym (c .before .before .credentials-too-long .ensures) ∙ (c .before .if1 .taken)) (c .fresh .ensures)
 
--- src/lib.rt:114:21
 fresh-requires-2 : tie.Need-fresh-requires-2
 fresh-requires-2 c κs = search needs
 
--- src/lib.rt:112:9
 returns-2 : tie.Need-returns-2
 returns-2 c = set-without (c .before .before .before .before .before .before .before .before .args .authenticates) (c .before .before .before .before .before .before .before .before .args .user .now) (c .before .before .before .before .before .before .before .before .args .password .now) (c .before .before .before .before .credential-of .ensures) (sym (c .before .before .before .credentials-too-long .ensures) ∙ (c .before .before .if1 .left)) (not-true _ (c .before .if2 .taken)) (c .fresh2 .ensures)
 
--- src/lib.rt:122:13
 credential-of-requires-2 : tie.Need-credential-of-requires-2
 credential-of-requires-2 c κs = short-enough (c .before .before .before .before .before .before .before .args .authenticates) (c .before .before .before .before .before .before .before .args .user .now) (c .before .before .before .before .before .before .before .args .password .now) (sym (c .before .before .credentials-too-long .ensures) ∙ (c .before .if1 .left)) (not-false _ (c .if2 .left)) .0
 
--- src/lib.rt:123:13
 credential-of-requires-3 : tie.Need-credential-of-requires-3
 credential-of-requires-3 c κs = short-enough (c .before .before .before .before .before .before .before .before .args .authenticates) (c .before .before .before .before .before .before .before .before .args .user .now) (c .before .before .before .before .before .before .before .before .args .password .now) (sym (c .before .before .before .credentials-too-long .ensures) ∙ (c .before .before .if1 .left)) (not-false _ (c .before .if2 .left)) .1
 
--- src/lib.rt:119:17
 fresh-requires-3 : tie.Need-fresh-requires-3
 fresh-requires-3 c κs = search needs
 
--- src/lib.rt:100:1
 returns-3 : tie.Need-returns-3
 returns-3 c = set-with (c .before .before .before .before .before .before .before .before .before .before .args .authenticates) (c .before .before .before .before .before .before .before .before .before .before .args .user .now) (c .before .before .before .before .before .before .before .before .before .before .args .password .now) (sym (c .before .before .before .before .before .credentials-too-long .ensures) ∙ (c .before .before .before .before .if1 .left)) (not-false _ (c .before .before .before .if2 .left)) (c .before .before .credential-of2 .ensures) (c .before .credential-of3 .ensures) (c .fresh3 .ensures)
 

@@ -3,26 +3,21 @@ use borrow.Author.Needs.{needs}
 use Rattle.raw_proxy.proofs.answer.Statement.{statement}
 use Rattle.raw_proxy.proofs.answer.Tie as tie
 
--- src/proxy.rt:114:9
 server-of-requires : tie.Need-server-of-requires
 server-of-requires c κs = search needs
 
--- src/proxy.rt:115:38
 record-of-requires : tie.Need-record-of-requires
 record-of-requires c κs = search needs
 
--- src/proxy.rt:115:9
 answer-requires : tie.Need-answer-requires
 answer-requires c κs = search needs
 
--- src/proxy.rt:118:5
 served-requires : tie.Need-served-requires
 served-requires c κs = search needs
 
 same-length : tie.Need-same-length
 same-length c = search needs
 
--- src/proxy.rt:104:1
 returns : tie.Need-returns
 returns c = says-answered (c .before .before .before .before .before .before .before .before .before .args .server) (c .before .before .before .before .before .before .before .server-of .ensures) (c .before .before .before .before .before .before .before .before .before .args .status) (c .before .before .before .before .before .before .before .before .before .args .bound) (c .before .before .before .before .before .before .before .before .before .args .port) _ _ _ _ (c .before .before .before .before .before .before .record-of .ensures) (c .before .before .before .before .answer .ensures) (c .served .ensures)
 

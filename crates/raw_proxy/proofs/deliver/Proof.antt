@@ -3,22 +3,18 @@ use borrow.Author.Needs.{needs}
 use Rattle.raw_proxy.proofs.deliver.Statement.{statement}
 use Rattle.raw_proxy.proofs.deliver.Tie as tie
 
--- src/proxy.rt:96:9
 server-of-requires : tie.Need-server-of-requires
 server-of-requires c κs = search needs
 
--- src/proxy.rt:97:9
 deliver-requires : tie.Need-deliver-requires
 deliver-requires c κs = search needs
 
--- src/proxy.rt:100:5
 served-requires : tie.Need-served-requires
 served-requires c κs = search needs
 
 same-length : tie.Need-same-length
 same-length c = search needs
 
--- src/proxy.rt:88:1
 returns : tie.Need-returns
 returns c = says-delivered (c .before .before .before .before .before .before .before .before .before .args .server) (c .before .before .before .before .before .before .server-of .ensures) _ _ _ _ _ (c .before .before .before .before .deliver .ensures) (c .served .ensures)
 

@@ -3,19 +3,15 @@ use borrow.Author.Needs.{needs}
 use Rattle.raw_proxy.proofs.end.Statement.{statement}
 use Rattle.raw_proxy.proofs.end.Tie as tie
 
--- src/proxy.rt:126:9
 server-of-requires : tie.Need-server-of-requires
 server-of-requires c κs = search needs
 
--- src/proxy.rt:127:9
 end-requires : tie.Need-end-requires
 end-requires c κs = search needs
 
--- src/proxy.rt:130:5
 served-requires : tie.Need-served-requires
 served-requires c κs = search needs
 
--- src/proxy.rt:122:1
 returns : tie.Need-returns
 returns c = says-ended (c .before .before .before .before .args .server) (c .before .before .before .server-of .ensures) (c .before .before .end .ensures) (c .served .ensures)
 

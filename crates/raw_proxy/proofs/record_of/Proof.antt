@@ -3,11 +3,9 @@ use borrow.Author.Needs.{needs}
 use Rattle.raw_proxy.proofs.record_of.Statement.{statement}
 use Rattle.raw_proxy.proofs.record_of.Tie as tie
 
--- src/proxy.rt:54:17
 family-of-requires : tie.Need-family-of-requires
 family-of-requires c κs = search needs
 
--- src/proxy.rt:49:1
 returns : tie.Need-returns
 returns c = record-as (c .before .before .args .raw) (c .family-of .ensures)
 

@@ -3,19 +3,15 @@ use borrow.Author.Needs.{needs}
 use Rattle.raw_proxy.proofs.set_up.Statement.{statement}
 use Rattle.raw_proxy.proofs.set_up.Tie as tie
 
--- src/proxy.rt:81:23
 truth-requires : tie.Need-truth-requires
 truth-requires c κs = search needs
 
--- src/proxy.rt:81:9
 set-up-requires : tie.Need-set-up-requires
 set-up-requires c κs = search needs
 
--- src/proxy.rt:84:5
 served-requires : tie.Need-served-requires
 served-requires c κs = search needs
 
--- src/proxy.rt:73:1
 returns : tie.Need-returns
 returns c = says-set-up (c .before .before .before .before .before .before .args .authenticates) (c .before .before .before .before .before .before .args .user .now) (c .before .before .before .before .before .before .args .password .now) (c .before .before .before .truth .ensures) (c .before .before .set-up .ensures) (c .served .ensures)
 

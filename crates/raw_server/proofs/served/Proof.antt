@@ -3,19 +3,15 @@ use borrow.Author.Needs.{needs}
 use Rattle.raw_server.proofs.served.Statement.{statement}
 use Rattle.raw_server.proofs.served.Tie as tie
 
--- src/proxy.rt:64:17
 raw-of-requires : tie.Need-raw-of-requires
 raw-of-requires c κs = search needs
 
--- src/proxy.rt:67:17
 answer-number-requires : tie.Need-answer-number-requires
 answer-number-requires c κs = search needs
 
--- src/proxy.rt:68:18
 standing-of-requires : tie.Need-standing-of-requires
 standing-of-requires c κs = search needs
 
--- src/proxy.rt:59:1
 returns : tie.Need-returns
 returns c = served-as (c .before .before .before .args .answer) (c .before .before .before .args .server) (c .before .before .before .args .used) (c .before .before .before .args .sent) (c .before .before .raw-of .ensures) (c .before .answer-number .ensures) (c .standing-of .ensures)
 

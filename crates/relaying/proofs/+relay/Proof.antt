@@ -30,7 +30,6 @@ piece-small : (t : ℕ) → (c : relay-lts.Start (
 ) (relay-at t) relay.Post) → length (c .args .piece .now) < 2 ^ 64
 piece-small t c = search needs
 
--- src/lib.rt:168:9
 relay-step-requires : (t : ℕ) → relay-lts.Need-step-requires (
   step-reads.Asked,
   step-reads.Learnt,
@@ -39,7 +38,6 @@ relay-step-requires : (t : ℕ) → relay-lts.Need-step-requires (
 ) (relay-at t) relay.Post
 relay-step-requires t c κs = c .before .before .before .before .before .before .pre .1
 
--- src/lib.rt:172:9
 relay-same-length : (t : ℕ) → relay-lts.Need-same-length (
   step-reads.Asked,
   step-reads.Learnt,
@@ -48,7 +46,6 @@ relay-same-length : (t : ℕ) → relay-lts.Need-same-length (
 ) (relay-at t) relay.Post
 relay-same-length t c = search needs
 
--- src/lib.rt:172:9
 relay-same-length-2 : (t : ℕ) → relay-lts.Need-same-length-2 (
   step-reads.Asked,
   step-reads.Learnt,
@@ -57,7 +54,6 @@ relay-same-length-2 : (t : ℕ) → relay-lts.Need-same-length-2 (
 ) (relay-at t) relay.Post
 relay-same-length-2 t c = search needs
 
--- src/lib.rt:172:9
 relay-returns : (t : ℕ) → relay-lts.Need-returns (
   step-reads.Asked,
   step-reads.Learnt,
@@ -66,7 +62,6 @@ relay-returns : (t : ℕ) → relay-lts.Need-returns (
 ) (relay-at t) relay.Post
 relay-returns t c = let s = c .before .before .before .before .before .before .before .step in s .ensures .stops (not-true (s .result .more) (c .if1 .taken))
 
--- src/lib.rt:177:47
 relay-sub-relay : (t : ℕ) → relay-lts.Need-sub-relay (
   step-reads.Asked,
   step-reads.Learnt,
@@ -75,7 +70,6 @@ relay-sub-relay : (t : ℕ) → relay-lts.Need-sub-relay (
 ) (relay-at t) relay.Post
 relay-sub-relay t c = search needs
 
--- src/lib.rt:177:47
 relay-part-relay-start : (t : ℕ) → relay-lts.Need-part-relay-start (
   step-reads.Asked,
   step-reads.Learnt,
@@ -84,7 +78,6 @@ relay-part-relay-start : (t : ℕ) → relay-lts.Need-part-relay-start (
 ) (relay-at t) relay.Post
 relay-part-relay-start t c = search needs
 
--- src/lib.rt:177:47
 relay-part-relay-end : (t : ℕ) → relay-lts.Need-part-relay-end (
   step-reads.Asked,
   step-reads.Learnt,
@@ -93,7 +86,6 @@ relay-part-relay-end : (t : ℕ) → relay-lts.Need-part-relay-end (
 ) (relay-at t) relay.Post
 relay-part-relay-end t c = search needs
 
--- src/lib.rt:177:9
 relay-relay-requires : (t : ℕ) → relay-lts.Need-relay-requires (
   step-reads.Asked,
   step-reads.Learnt,
@@ -106,7 +98,6 @@ relay-relay-requires t c κs =
     let v = s .ensures .goes (not-false (s .result .more) (c .before .before .before .if1 .left)) in
     (omega (arith, start .pre .0, nearer v), v .asks)
 
--- src/lib.rt:181:15
 relay-add-t20 : (t : ℕ) → relay-lts.Need-add-t20 (
   step-reads.Asked,
   step-reads.Learnt,
@@ -122,7 +113,6 @@ relay-add-t20 t c =
     let small = piece-small t (c .before .before .before .before .before .before .before .before .before .before .before .before .before .before .before .before .before .before .before .before .before .before .before .before) in
     omega arith
 
--- src/lib.rt:157:1
 relay-same-length-3 : (t : ℕ) → relay-lts.Need-same-length-3 (
   step-reads.Asked,
   step-reads.Learnt,
@@ -131,7 +121,6 @@ relay-same-length-3 : (t : ℕ) → relay-lts.Need-same-length-3 (
 ) (relay-at t) relay.Post
 relay-same-length-3 t c = search needs
 
--- src/lib.rt:157:1
 relay-same-length-4 : (t : ℕ) → relay-lts.Need-same-length-4 (
   step-reads.Asked,
   step-reads.Learnt,
@@ -140,7 +129,6 @@ relay-same-length-4 : (t : ℕ) → relay-lts.Need-same-length-4 (
 ) (relay-at t) relay.Post
 relay-same-length-4 t c = search needs
 
--- src/lib.rt:157:1
 relay-returns-2 : (t : ℕ) → relay-lts.Need-returns-2 (
   step-reads.Asked,
   step-reads.Learnt,

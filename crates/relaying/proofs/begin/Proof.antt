@@ -7,23 +7,18 @@ use Prim.Native.Nat.{_-_}
 use Rattle.relaying.proofs.begin.Statement.{statement}
 use Rattle.relaying.proofs.begin.Tie as tie
 
--- src/lib.rt:67:17
 sub-index : tie.Need-sub-index
 sub-index c = search needs
 
--- src/lib.rt:68:15
 mul-hop : tie.Need-mul-hop
 mul-hop c = search needs
 
--- src/lib.rt:68:15
 array-copy-out-hop : tie.Need-array-copy-out-hop
 array-copy-out-hop c = search needs
 
--- src/lib.rt:72:9
 first-size-requires : tie.Need-first-size-requires
 first-size-requires c κs = search needs
 
--- src/lib.rt:73:9
 send-requires : tie.Need-send-requires
 send-requires c κs =
     let start = c .before .before .before .before .before .before .before .before in
@@ -32,11 +27,9 @@ send-requires c κs =
     let small = begins-small (n .lengths) (n .first) (c .before .first-size .ensures) in
     (whole, (omega arith, (omega arith, omega arith)))
 
--- src/lib.rt:62:1
 same-length : tie.Need-same-length
 same-length c = search needs
 
--- src/lib.rt:62:1
 returns : tie.Need-returns
 returns c =
     let start = c .before .before .before .before .before .before .before .before .before .before .before in

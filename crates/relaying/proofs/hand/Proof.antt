@@ -3,38 +3,30 @@ use borrow.Author.Needs.{needs}
 use Rattle.relaying.proofs.hand.Statement.{statement}
 use Rattle.relaying.proofs.hand.Tie as tie
 
--- src/lib.rt:98:15
 mul-hop : tie.Need-mul-hop
 mul-hop c = search needs
 
--- src/lib.rt:98:15
 array-copy-out-hop : tie.Need-array-copy-out-hop
 array-copy-out-hop c = search needs
 
--- src/lib.rt:102:9
 receive-requires : tie.Need-receive-requires
 receive-requires c κs = search needs
 
--- src/lib.rt:106:9
 send-requires : tie.Need-send-requires
 send-requires c κs =
     let start = c .before .before .before .before .before .before .before .before .before .before .before .before .before .before in
     let a = start .args in
     sends-inside (a .t1) (a .spot) (a .bytes .now) (a .hold .now) (a .piece .now) (a .out .now) (start .pre) (c .before .before .before .before .before .receive .ensures)
 
--- src/lib.rt:113:23
 wrapping-add-u64-requires : tie.Need-wrapping-add-u64-requires
 wrapping-add-u64-requires c κs = search needs
 
--- src/lib.rt:85:1
 same-length : tie.Need-same-length
 same-length c = search needs
 
--- src/lib.rt:85:1
 same-length-2 : tie.Need-same-length-2
 same-length-2 c = search needs
 
--- src/lib.rt:85:1
 returns : tie.Need-returns
 returns c =
     let start = c .before .before .before .before .before .before .before .before .before .before .before .before .before .before .before .before .before .before in

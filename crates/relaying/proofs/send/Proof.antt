@@ -3,39 +3,30 @@ use borrow.Author.Needs.{needs}
 use Rattle.relaying.proofs.send.Statement.{statement}
 use Rattle.relaying.proofs.send.Tie as tie
 
--- src/lib.rt:45:17
 mul-start : tie.Need-mul-start
 mul-start c = search needs
 
--- src/lib.rt:45:17
 add-start : tie.Need-add-start
 add-start c = search needs
 
--- src/lib.rt:46:15
 add-end : tie.Need-add-end
 add-end c = search needs
 
--- src/lib.rt:47:19
 sub-copy : tie.Need-sub-copy
 sub-copy c = search needs
 
--- src/lib.rt:47:19
 part-copy-start : tie.Need-part-copy-start
 part-copy-start c = search needs
 
--- src/lib.rt:47:19
 part-copy-end : tie.Need-part-copy-end
 part-copy-end c = search needs
 
--- src/lib.rt:47:5
 copy-requires : tie.Need-copy-requires
 copy-requires c κs = search needs
 
--- src/lib.rt:41:1
 same-length : tie.Need-same-length
 same-length c = search needs
 
--- src/lib.rt:41:1
 returns : tie.Need-returns
 returns c =
     let start = c .before .before .before .before .before .before .before in

@@ -5,23 +5,18 @@ use borrow.Author.Needs.{needs}
 use Rattle.relaying.proofs.step.Statement.{statement}
 use Rattle.relaying.proofs.step.Tie as tie
 
--- src/lib.rt:138:9
 hand-requires : tie.Need-hand-requires
 hand-requires c κs = search needs
 
--- src/lib.rt:141:9
 goes-on-requires : tie.Need-goes-on-requires
 goes-on-requires c κs = search needs
 
--- src/lib.rt:142:9
 same-length : tie.Need-same-length
 same-length c = search needs
 
--- src/lib.rt:142:9
 same-length-2 : tie.Need-same-length-2
 same-length-2 c = search needs
 
--- src/lib.rt:142:9
 returns : tie.Need-returns
 returns c =
     let start = c .before .before .before .before .before .before .before .before .before .before .before .before .before .before in
@@ -29,7 +24,6 @@ returns c =
     let h = c .before .before .before .before .before .before .before .hand in
     stops-here (a .hops) (a .spot) (a .bytes .now) (a .hold .now) (a .piece .now) (a .out .now) (start .pre) (h .result) (h .ensures .0) (sym (c .before .goes-on .ensures) ∙ not-true (c .before .goes-on .result) (c .if1 .taken))
 
--- src/lib.rt:148:9
 begin-requires : tie.Need-begin-requires
 begin-requires c κs =
     let start = c .before .before .before .before .before .before .before .before .before .before .before .before .before .before .before in
@@ -38,15 +32,12 @@ begin-requires c κs =
     let g = c .before .before .goes-on in
     begin-asks (a .hops) (a .spot) (a .bytes .now) (a .hold .now) (a .piece .now) (a .out .now) (start .pre) (h .result) (h .ensures .0) (h .ensures .1 .0) (h .ensures .1 .1) (sym (g .ensures) ∙ not-false (g .result) (c .before .if1 .left))
 
--- src/lib.rt:127:1
 same-length-3 : tie.Need-same-length-3
 same-length-3 c = search needs
 
--- src/lib.rt:127:1
 same-length-4 : tie.Need-same-length-4
 same-length-4 c = search needs
 
--- src/lib.rt:127:1
 returns-2 : tie.Need-returns-2
 returns-2 c =
     let start = c .before .before .before .before .before .before .before .before .before .before .before .before .before .before .before .before .before .before in

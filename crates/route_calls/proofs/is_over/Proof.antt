@@ -2,27 +2,21 @@ use borrow.Author.Needs.{needs}
 use Rattle.route_calls.proofs.is_over.Statement.{statement}
 use Rattle.route_calls.proofs.is_over.Tie as tie
 
--- src/lib.rt:222:25
 enum-known-stage : tie.Need-enum-known-stage
 enum-known-stage c = search needs
 
--- src/lib.rt:223:24
 enum-told : tie.Need-enum-told
 enum-told c = search needs
 
--- src/lib.rt:224:23
 enum-known-stage-2 : tie.Need-enum-known-stage-2
 enum-known-stage-2 c = search needs
 
--- src/lib.rt:218:1
 returns : tie.Need-returns
 returns c = λ b h. rw (c .before .stage .given .1)
 
--- src/lib.rt:218:1
 returns-2 : tie.Need-returns-2
 returns-2 c = λ b h. rw (c .enum-told .given .1)
 
--- src/lib.rt:218:1
 returns-3 : tie.Need-returns-3
 returns-3 c = λ b h. rw (c .before .stage2 .given .1)
 

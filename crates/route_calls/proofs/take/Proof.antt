@@ -7,49 +7,39 @@ use borrow.Author.Needs.{needs}
 use Rattle.route_calls.proofs.take.Statement.{statement}
 use Rattle.route_calls.proofs.take.Tie as tie
 
--- src/lib.rt:259:8
 is-over-requires : tie.Need-is-over-requires
 is-over-requires c κs = search needs
 
--- src/lib.rt:260:9
 untaken-requires : tie.Need-untaken-requires
 untaken-requires c κs = search needs
 
--- src/lib.rt:260:9
 returns : tie.Need-returns
 returns c =
     let start = c .before .before .before .before .before .before .before in
     let a = start .args in
     delivers-settled (routeAt (a .hops) (a .count) (a .spot) (a .bytes .now) (a .hold .now)) (a .piece .now) (a .out .now) (c .before .before .is-over .ensures (a .spot .bound) (take (a .spot .held) (a .hold .now))) (c .before .if1 .taken) (untaken-as (a .hops) (a .count) (a .spot) (a .bytes .now) (a .hold .now) (start .pre .fresh) (c .untaken .ensures))
 
--- src/lib.rt:262:9
 last-of-requires : tie.Need-last-of-requires
 last-of-requires c κs = search needs
 
--- src/lib.rt:263:28
 add-if2 : tie.Need-add-if2
 add-if2 c = search needs
 
--- src/lib.rt:263:20
 mul-if2 : tie.Need-mul-if2
 mul-if2 c = search needs
 
--- src/lib.rt:264:9
 untaken-requires-2 : tie.Need-untaken-requires-2
 untaken-requires-2 c κs = search needs
 
--- src/lib.rt:264:9
 returns-2 : tie.Need-returns-2
 returns-2 c =
     let start = c .before .before .before .before .before .before .before .before .before in
     let a = start .args in
     delivers-short (routeAt (a .hops) (a .count) (a .spot) (a .bytes .now) (a .hold .now)) (a .piece .now) (a .out .now) (c .before .before .before .before .is-over .ensures (a .spot .bound) (take (a .spot .held) (a .hold .now))) (c .before .before .before .if1 .left) (c .before .before .last-of .ensures) (c .before .if2 .taken) (untaken-as (a .hops) (a .count) (a .spot) (a .bytes .now) (a .hold .now) (start .pre .fresh) (c .untaken2 .ensures))
 
--- src/lib.rt:270:21
 least-requires : tie.Need-least-requires
 least-requires c κs = search needs
 
--- src/lib.rt:267:9
 relay-requires : tie.Need-relay-requires
 relay-requires c κs =
     let start = c .before .before .before .before .before .before .before .before .before .before .before .before in
@@ -57,15 +47,12 @@ relay-requires c κs =
     let y = start .pre in
     relay-asks (routeAt (a .hops) (a .count) (a .spot) (a .bytes .now) (a .hold .now)) (a .piece .now) (a .out .now) (c .before .before .least .ensures ∙ ap (λ (k : ℕ). min (a .spot .behind) k) (c .before .before .before .before .before .last-of .ensures)) (y .holds) (y .whole) (y .small) (room-enough (routeAt (a .hops) (a .count) (a .spot) (a .bytes .now) (a .hold .now)) (c .before .before .before .before .before .last-of .ensures) (c .before .before .before .before .if2 .left))
 
--- src/lib.rt:246:1
 same-length : tie.Need-same-length
 same-length c = search needs
 
--- src/lib.rt:246:1
 same-length-2 : tie.Need-same-length-2
 same-length-2 c = search needs
 
--- src/lib.rt:246:1
 returns-3 : tie.Need-returns-3
 returns-3 c =
     let a = c .before .before .before .before .before .before .before .before .before .before .before .before .before .before .before .before .before .before .args in

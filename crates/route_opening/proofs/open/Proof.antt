@@ -9,41 +9,33 @@ use Rattle.route_opening.proofs.open.Tie as tie
 eight : (c : tie.Start) → length (c .args .proxies) ≡ 8
 eight c = search needs
 
--- src/lib.rt:211:9
 size-answer-requires : tie.Need-size-answer-requires
 size-answer-requires c κs = search needs
 
--- src/lib.rt:213:74
 enum-told : tie.Need-enum-told
 enum-told c = search needs
 
--- src/lib.rt:213:29
 open-sized-requires : tie.Need-open-sized-requires
 open-sized-requires c κs =
     let a = c .before .before .before .before .before .before .before .args in
     let (some, (m, room)) = size-has (a .count) (length (a .out .now)) (sym (c .before .before .before .size-answer .ensures) ∙ c .before .enum-told .given .1) in
     (some, (m, omega arith))
 
--- src/lib.rt:214:25
 enum-known-answer : tie.Need-enum-known-answer
 enum-known-answer c = search needs
 
--- src/lib.rt:214:35
 refuse-requires : tie.Need-refuse-requires
 refuse-requires c κs = search needs
 
--- src/lib.rt:201:1
 same-length : tie.Need-same-length
 same-length c = search needs
 
--- src/lib.rt:201:1
 returns : tie.Need-returns
 returns c =
     let start = c .before .before .before .before .before .before .before .before .before .before in
     let a = start .args in
     opens-sized (a .text .now) (a .proxies) (eight start) (a .count) (a .host .now) (a .port) (a .out .now) (c .before .before .before .before .before .before .size-answer .ensures) (c .before .before .before .before .enum-told .given .1) (c .before .before .open-sized .ensures)
 
--- src/lib.rt:201:1
 returns-2 : tie.Need-returns-2
 returns-2 c =
     let start = c .before .before .before .before .before .before .before .before in

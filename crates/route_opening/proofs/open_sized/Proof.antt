@@ -17,47 +17,36 @@ row c =
     let (some, (m, room)) = c .pre in
     length-map (take (c .args .count) (c .args .proxies)) (proxyOf (c .args .text .now)) ∙ length-take-le (c .args .count) (c .args .proxies) (omega (arith, eight c, m))
 
--- src/lib.rt:144:61
 no-hops-requires : tie.Need-no-hops-requires
 no-hops-requires c κs = search needs
 
--- src/lib.rt:144:72
 slice-aggregate-plan : tie.Need-slice-aggregate-plan
 slice-aggregate-plan c = search needs
 
--- src/lib.rt:144:9
 plan-requires : tie.Need-plan-requires
 plan-requires c κs = search needs
 
--- src/lib.rt:148:48
 enum-told : tie.Need-enum-told
 enum-told c = search needs
 
--- src/lib.rt:148:80
 slice-aggregate-begin-first : tie.Need-slice-aggregate-begin-first
 slice-aggregate-begin-first c = search needs
 
--- src/lib.rt:148:55
 begin-first-requires : tie.Need-begin-first-requires
 begin-first-requires c κs = search needs
 
--- src/lib.rt:148:29
 begun-requires : tie.Need-begun-requires
 begun-requires c κs = search needs
 
--- src/lib.rt:149:25
 enum-known-answer : tie.Need-enum-known-answer
 enum-known-answer c = search needs
 
--- src/lib.rt:149:35
 refuse-requires : tie.Need-refuse-requires
 refuse-requires c κs = search needs
 
--- src/lib.rt:132:1
 same-length : tie.Need-same-length
 same-length c = search needs
 
--- src/lib.rt:132:1
 returns : tie.Need-returns
 returns c =
     let start = c .before .before .before .before .before .before .before .before .before .before .before .before .before .before .before .before in
@@ -68,7 +57,6 @@ returns c =
     opens-accepted (proxiesOf (a .text .now) (take (a .count) (a .proxies))) (a .host .now) (a .port) (row start) some (a .out .now) (planned-from (c .before .before .before .before .before .before .before .before .before .before .before .before .no-hops .ensures) (p .ensures)) (c .before .before .before .before .before .before .enum-told .given .1)
     (begins-as (p .result .hops) (a .count) _ (a .out .now) (b .result) (b .ensures .0) (b .ensures .1) (c .begun .ensures))
 
--- src/lib.rt:132:1
 returns-2 : tie.Need-returns-2
 returns-2 c =
     let start = c .before .before .before .before .before .before .before .before .before .before .before .before in

@@ -2,11 +2,9 @@ use borrow.Author.Needs.{needs}
 use Rattle.route_opening.proofs.refuse.Statement.{statement}
 use Rattle.route_opening.proofs.refuse.Tie as tie
 
--- src/lib.rt:114:19
 no-hops-requires : tie.Need-no-hops-requires
 no-hops-requires c κs = search needs
 
--- src/lib.rt:97:1
 returns : tie.Need-returns
 returns c = rw (c .no-hops .ensures)
 

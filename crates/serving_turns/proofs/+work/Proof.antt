@@ -25,7 +25,6 @@ work-at t = and 5 work-kinds.ps (is 5 work-kinds.ps μ-work t) work.Pre
 abbrev work-below : ℕ → In 5 work-kinds.ps
 work-below t = and 5 work-kinds.ps (falls 5 work-kinds.ps _<_ μ-work t) work.Pre
 
--- src/lib.rt:181:9
 work-take-turn-requires : (t : ℕ) → work-lts.Need-take-turn-requires (
   take-turn-reads.Asked,
   take-turn-reads.Learnt,
@@ -34,7 +33,6 @@ work-take-turn-requires : (t : ℕ) → work-lts.Need-take-turn-requires (
 ) (work-at t) work.Post
 work-take-turn-requires t c κs = c .before .before .before .before .before .before .pre .1
 
--- src/lib.rt:185:9
 work-same-length : (t : ℕ) → work-lts.Need-same-length (
   take-turn-reads.Asked,
   take-turn-reads.Learnt,
@@ -43,7 +41,6 @@ work-same-length : (t : ℕ) → work-lts.Need-same-length (
 ) (work-at t) work.Post
 work-same-length t c = search needs
 
--- src/lib.rt:185:9
 work-returns : (t : ℕ) → work-lts.Need-returns (
   take-turn-reads.Asked,
   take-turn-reads.Learnt,
@@ -52,7 +49,6 @@ work-returns : (t : ℕ) → work-lts.Need-returns (
 ) (work-at t) work.Post
 work-returns t c = let s = c .before .before .before .before .before .take-turn in s .ensures .stops (not-true (s .result .again) (c .if1 .taken))
 
--- src/lib.rt:187:5
 work-work-requires : (t : ℕ) → work-lts.Need-work-requires (
   take-turn-reads.Asked,
   take-turn-reads.Learnt,
@@ -72,7 +68,6 @@ work-work-requires t c κs =
     let p = start .pre .1 .1 in
     (omega (arith, start .pre .0), (omega (arith, length-append (a .held .now) (a .piece .now)), omega arith))
 
--- src/lib.rt:167:1
 work-same-length-2 : (t : ℕ) → work-lts.Need-same-length-2 (
   take-turn-reads.Asked,
   take-turn-reads.Learnt,
@@ -81,7 +76,6 @@ work-same-length-2 : (t : ℕ) → work-lts.Need-same-length-2 (
 ) (work-at t) work.Post
 work-same-length-2 t c = search needs
 
--- src/lib.rt:167:1
 work-returns-2 : (t : ℕ) → work-lts.Need-returns-2 (
   take-turn-reads.Asked,
   take-turn-reads.Learnt,

@@ -2,35 +2,27 @@ use borrow.Author.Needs.{needs}
 use Rattle.serving_turns.proofs.awaited.Statement.{statement}
 use Rattle.serving_turns.proofs.awaited.Tie as tie
 
--- src/lib.rt:62:25
 enum-known-stage : tie.Need-enum-known-stage
 enum-known-stage c = search needs
 
--- src/lib.rt:66:22
 enum-known-stage-2 : tie.Need-enum-known-stage-2
 enum-known-stage-2 c = search needs
 
--- src/lib.rt:67:21
 enum-known-stage-3 : tie.Need-enum-known-stage-3
 enum-known-stage-3 c = search needs
 
--- src/lib.rt:68:23
 enum-known-stage-4 : tie.Need-enum-known-stage-4
 enum-known-stage-4 c = search needs
 
--- src/lib.rt:58:1
 returns : tie.Need-returns
 returns c = rw (c .before .stage .given .1)
 
--- src/lib.rt:58:1
 returns-2 : tie.Need-returns-2
 returns-2 c = rw (c .before .stage2 .given .1)
 
--- src/lib.rt:58:1
 returns-3 : tie.Need-returns-3
 returns-3 c = rw (c .before .stage3 .given .1)
 
--- src/lib.rt:58:1
 returns-4 : tie.Need-returns-4
 returns-4 c = rw (c .before .stage4 .given .1)
 

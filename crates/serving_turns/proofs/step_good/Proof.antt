@@ -8,26 +8,21 @@ use borrow.Author.Needs.{needs}
 use Rattle.serving_turns.proofs.step_good.Statement.{statement}
 use Rattle.serving_turns.proofs.step_good.Tie as tie
 
--- src/lib.rt:113:9
 judge-at-requires : tie.Need-judge-at-requires
 judge-at-requires c κs = search needs
 
--- src/lib.rt:116:9
 put-requires : tie.Need-put-requires
 put-requires c κs =
     let start = c .before .before .before .before .before .before .before in
     let r = rank-bounds (start .args .field) in
     omega (arith, start .pre)
 
--- src/lib.rt:117:9
 awaited-requires : tie.Need-awaited-requires
 awaited-requires c κs = search needs
 
--- src/lib.rt:97:1
 same-length : tie.Need-same-length
 same-length c = search needs
 
--- src/lib.rt:97:1
 returns : tie.Need-returns
 returns c =
     let start = c .before .before .before .before .before .before .before .before .before .before .before in

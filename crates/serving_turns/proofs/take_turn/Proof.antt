@@ -37,31 +37,24 @@ ends : (c : tie.After-slice-known) {n : ℕ} {v : Verdict SocksError}
     → (let a = c .before .before .before .before .before .args in side.reads (a .field) (drop (a .place) (a .held .now ++ a .piece .now)) ≡ decided n v → a .place + n ≤ length (a .held .now ++ a .piece .now))
 ends c {n} {v} e = let a = c .before .before .before .before .before .args in within-at (record { authenticates = a .authenticates; user = a .user .now; password = a .password .now }) (a .field) (a .held .now ++ a .piece .now) (a .place) n v (there c) e
 
--- src/lib.rt:147:11
 read-at-requires : tie.Need-read-at-requires
 read-at-requires c κs = search needs
 
--- src/lib.rt:148:38
 enum-told : tie.Need-enum-told
 enum-told c = search needs
 
--- src/lib.rt:148:32
 stops-requires : tie.Need-stops-requires
 stops-requires c κs = search needs
 
--- src/lib.rt:149:27
 enum-known-n : tie.Need-enum-known-n
 enum-known-n c = search needs
 
--- src/lib.rt:158:17
 enum-told-2 : tie.Need-enum-told-2
 enum-told-2 c = search needs
 
--- src/lib.rt:158:17
 add-step-good : tie.Need-add-step-good
 add-step-good c = record { fits = omega (arith, small (c .before .before .before .before .before .before), ends (c .before .before .before .before .before .before) (told-decided (c .before .before .before .n .given .0 .0) _ Good (c .before .before .before .before .before .read-at .ensures) (c .before .before .before .n .given .1) (c .enum-told2 .given .1))) }
 
--- src/lib.rt:150:30
 step-good-requires : tie.Need-step-good-requires
 step-good-requires c κs =
     let g = c .before .before .before .before .before .before .before in
@@ -71,21 +64,17 @@ step-good-requires c κs =
     let k : n ≡ a .place + n - a .place = omega arith in
     ((omega arith, (omega (arith, ends g e, length-append (a .held .now) (a .piece .now)), g .before .before .before .before .before .pre .1)), e ∙ ap (λ (i : ℕ). decided i good) k)
 
--- src/lib.rt:162:26
 enum-known-verdict : tie.Need-enum-known-verdict
 enum-known-verdict c = search needs
 
--- src/lib.rt:162:78
 add-stops : tie.Need-add-stops
 add-stops c =
     let e = told-decided (c .before .before .before .before .n .given .0 .0) _ _ (c .before .before .before .before .before .before .read-at .ensures) (c .before .before .before .before .n .given .1) (c .before .verdict .given .1) in
     record { fits = omega (arith, small (c .before .before .before .before .before .before .before), ends (c .before .before .before .before .before .before .before) e) }
 
--- src/lib.rt:162:36
 stops-requires-2 : tie.Need-stops-requires-2
 stops-requires-2 c κs = search needs
 
--- src/lib.rt:133:1
 returns : tie.Need-returns
 returns c =
     let g = c .before .before .before .before in
@@ -93,15 +82,12 @@ returns c =
     let e = told-undecided (c .before .before .before .read-at .ensures) (c .before .enum-told .given .1) in
     stopped _ (a .field) (c .stops .ensures) (waits-worked _ (a .field) (a .held .now ++ a .piece .now) (a .place) (a .out .now) (a .sent) (there g) (bytes g) (room g) e)
 
--- src/lib.rt:133:1
 same-length : tie.Need-same-length
 same-length c = search needs
 
--- src/lib.rt:133:1
 returns-2 : tie.Need-returns-2
 returns-2 c = search needs
 
--- src/lib.rt:133:1
 returns-3 : tie.Need-returns-3
 returns-3 c =
     let g = c .before .before .before .before .before .before .before .before in

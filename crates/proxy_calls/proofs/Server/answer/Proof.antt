@@ -4,15 +4,12 @@ use borrow.Author.Needs.{needs}
 use Rattle.proxy_calls.proofs.Server.answer.Statement.{statement}
 use Rattle.proxy_calls.proofs.Server.answer.Tie as tie
 
--- src/lib.rt:192:13
 answer-requires : tie.Need-answer-requires
 answer-requires c κs = search needs
 
--- src/lib.rt:188:5
 same-length : tie.Need-same-length
 same-length c = search needs
 
--- src/lib.rt:188:5
 returns : tie.Need-returns
 returns c = let a = c .before .before .before .before .before .before .before .before .before .args in answers (a .self) (a .status) (endpointOf (a .bound) (a .port)) (a .out .now) (c .before .before .before .before .before .before .answer .ensures)
 

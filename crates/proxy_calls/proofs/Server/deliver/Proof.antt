@@ -27,43 +27,33 @@ password-small c = search needs
 password-inside : (c : tie.Start) {n : ℕ} → n ≡ c .args .self .password .len → n ≤ length (c .args .self .password .bytes)
 password-inside c e = omega (arith, password-long c, password-small c)
 
--- src/lib.rt:152:13
 wide-requires : tie.Need-wide-requires
 wide-requires c κs = search needs
 
--- src/lib.rt:153:13
 wide-requires-2 : tie.Need-wide-requires-2
 wide-requires-2 c κs = search needs
 
--- src/lib.rt:159:13
 array-share-prefix-user-bytes : tie.Need-array-share-prefix-user-bytes
 array-share-prefix-user-bytes c = user-inside (c .before .before .before .before .before .before .before .before .before .before) (c .before .before .wide .ensures)
 
--- src/lib.rt:159:13
 slice-aggregate-receive : tie.Need-slice-aggregate-receive
 slice-aggregate-receive c = sym (length-take-le _ _ (user-inside (c .before .before .before .before .before .before .before .before .before .before .before) (c .before .before .before .wide .ensures)))
 
--- src/lib.rt:160:13
 array-share-prefix-password-bytes : tie.Need-array-share-prefix-password-bytes
 array-share-prefix-password-bytes c = password-inside (c .before .before .before .before .before .before .before .before .before .before .before) (c .before .before .wide2 .ensures)
 
--- src/lib.rt:160:13
 slice-aggregate-receive-2 : tie.Need-slice-aggregate-receive-2
 slice-aggregate-receive-2 c = sym (length-take-le _ _ (password-inside (c .before .before .before .before .before .before .before .before .before .before .before .before) (c .before .before .before .wide2 .ensures)))
 
--- src/lib.rt:161:13
 slice-aggregate-receive-3 : tie.Need-slice-aggregate-receive-3
 slice-aggregate-receive-3 c = search needs
 
--- src/lib.rt:155:13
 receive-requires : tie.Need-receive-requires
 receive-requires c κs = search needs
 
--- src/lib.rt:143:5
 same-length : tie.Need-same-length
 same-length c = search needs
 
--- src/lib.rt:143:5
 returns : tie.Need-returns
 returns c =
     let a = c .before .before .before .before .before .before .before .before .before .before .before .before .before .before .before .before .before .before .before .before .args in

@@ -11,39 +11,31 @@ use Rattle.proxy_calls.proofs.Server.destination.Tie as tie
 hold-long : (c : tie.Start) → length (c .args .self .hold) ≡ 1014
 hold-long c = search needs
 
--- src/lib.rt:255:13
 has-destination-requires : tie.Need-has-destination-requires
 has-destination-requires c κs = search needs
 
--- src/lib.rt:256:13
 no-target-requires : tie.Need-no-target-requires
 no-target-requires c κs = search needs
 
--- src/lib.rt:256:13
 returns : tie.Need-returns
 returns c = c .no-target .ensures ∙ no-destination (c .before .before .before .before .before .args .self) (c .before .before .has-destination .ensures) (not-true _ (c .before .if1 .taken))
 
--- src/lib.rt:258:13
 least-requires : tie.Need-least-requires
 least-requires c κs = search needs
 
--- src/lib.rt:259:26
 array-share-prefix-hold : tie.Need-array-share-prefix-hold
 array-share-prefix-hold c =
     let e = c .least .ensures in
     omega (arith, hold-long (c .before .before .before .before .before))
 
--- src/lib.rt:259:26
 slice-aggregate-as-target : tie.Need-slice-aggregate-as-target
 slice-aggregate-as-target c =
     let e = c .before .least .ensures in
     sym (length-take-le _ _ (omega (arith, hold-long (c .before .before .before .before .before .before))))
 
--- src/lib.rt:259:9
 as-target-requires : tie.Need-as-target-requires
 as-target-requires c κs = search needs
 
--- src/lib.rt:249:5
 returns-2 : tie.Need-returns-2
 returns-2 c =
     let start = c .before .before .before .before .before .before .before in

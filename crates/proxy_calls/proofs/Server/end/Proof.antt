@@ -3,11 +3,9 @@ use borrow.Author.Needs.{needs}
 use Rattle.proxy_calls.proofs.Server.end.Statement.{statement}
 use Rattle.proxy_calls.proofs.Server.end.Tie as tie
 
--- src/lib.rt:219:13
 end-requires : tie.Need-end-requires
 end-requires c κs = search needs
 
--- src/lib.rt:215:5
 returns : tie.Need-returns
 returns c = ends-as (c .before .before .before .before .before .args .self) (c .before .before .before .before .end .ensures)
 

@@ -2,7 +2,6 @@ use mathlib.Core.Path.{refl}
 use Rattle.route_calls.proofs.Route.attempts.Statement.{statement}
 use Rattle.route_calls.proofs.Route.attempts.Tie as tie
 
--- src/lib.rt:242:5
 returns : tie.Need-returns
 returns c = refl
 

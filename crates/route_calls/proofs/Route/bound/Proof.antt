@@ -12,39 +12,31 @@ use Rattle.route_calls.proofs.Route.bound.Tie as tie
 hold-long : (c : tie.Start) → length (c .args .self .hold) ≡ 261
 hold-long c = search needs
 
--- src/lib.rt:341:13
 is-open-requires : tie.Need-is-open-requires
 is-open-requires c κs = search needs
 
--- src/lib.rt:342:13
 unbound-requires : tie.Need-unbound-requires
 unbound-requires c κs = search needs
 
--- src/lib.rt:342:13
 returns : tie.Need-returns
 returns c = c .unbound .ensures ∙ not-bound (sessionIn (c .before .before .before .args .self)) (c .before .before .is-open .ensures) (not-true _ (c .before .if1 .taken))
 
--- src/lib.rt:346:13
 least-requires : tie.Need-least-requires
 least-requires c κs = search needs
 
--- src/lib.rt:347:23
 array-share-prefix-hold : tie.Need-array-share-prefix-hold
 array-share-prefix-hold c =
     let e = c .least .ensures in
     omega (arith, hold-long (c .before .before .before .before .before))
 
--- src/lib.rt:347:23
 slice-aggregate-address : tie.Need-slice-aggregate-address
 slice-aggregate-address c =
     let e = c .before .least .ensures in
     sym (length-take-le _ _ (omega (arith, hold-long (c .before .before .before .before .before .before))))
 
--- src/lib.rt:347:9
 address-requires : tie.Need-address-requires
 address-requires c κs = search needs
 
--- src/lib.rt:337:5
 returns-2 : tie.Need-returns-2
 returns-2 c =
     let start = c .before .before .before .before .before .before .before in

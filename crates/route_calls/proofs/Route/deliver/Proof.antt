@@ -2,23 +2,18 @@ use borrow.Author.Needs.{needs}
 use Rattle.route_calls.proofs.Route.deliver.Statement.{statement}
 use Rattle.route_calls.proofs.Route.deliver.Tie as tie
 
--- src/lib.rt:162:13
 slice-aggregate-take : tie.Need-slice-aggregate-take
 slice-aggregate-take c = search needs
 
--- src/lib.rt:163:13
 slice-aggregate-take-2 : tie.Need-slice-aggregate-take-2
 slice-aggregate-take-2 c = search needs
 
--- src/lib.rt:151:13
 take-requires : tie.Need-take-requires
 take-requires c κs = search needs
 
--- src/lib.rt:143:5
 same-length : tie.Need-same-length
 same-length c = search needs
 
--- src/lib.rt:143:5
 returns : tie.Need-returns
 returns c = c .before .before .before .before .before .before .take .ensures
 

@@ -5,11 +5,9 @@ use borrow.Author.Needs.{needs}
 use Rattle.route_calls.proofs.Route.end.Statement.{statement}
 use Rattle.route_calls.proofs.Route.end.Tie as tie
 
--- src/lib.rt:309:13
 end-requires : tie.Need-end-requires
 end-requires c κs = search needs
 
--- src/lib.rt:301:5
 returns : tie.Need-returns
 returns c =
     let r = c .before .before .before .before .before .args .self in

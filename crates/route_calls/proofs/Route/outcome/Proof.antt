@@ -4,11 +4,9 @@ use borrow.Author.Needs.{needs}
 use Rattle.route_calls.proofs.Route.outcome.Statement.{statement}
 use Rattle.route_calls.proofs.Route.outcome.Tie as tie
 
--- src/lib.rt:333:9
 outcome-requires : tie.Need-outcome-requires
 outcome-requires c κs = search needs
 
--- src/lib.rt:329:5
 returns : tie.Need-returns
 returns c = let r = c .before .args .self in c .outcome .ensures (r .bound) (heldBytes (sessionIn r))
 

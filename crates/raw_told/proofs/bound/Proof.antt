@@ -1,7 +1,7 @@
-use Rattle.raw_calls.proofs.Laws.{says-bound}
+use Rattle.raw_told.proofs.Laws.{says-bound}
 use borrow.Author.Needs.{needs}
-use Rattle.raw_calls.proofs.bound.Statement.{statement}
-use Rattle.raw_calls.proofs.bound.Tie as tie
+use Rattle.raw_told.proofs.bound.Statement.{statement}
+use Rattle.raw_told.proofs.bound.Tie as tie
 
 session-of-requires : tie.Need-session-of-requires
 session-of-requires c κs = search needs

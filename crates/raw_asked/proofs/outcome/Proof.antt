@@ -1,17 +1,14 @@
-use Rattle.raw_proxy.proofs.Laws.{says-standing}
+use Rattle.raw_asked.proofs.Laws.{says-standing}
 use borrow.Author.Needs.{needs}
-use Rattle.raw_proxy.proofs.outcome.Statement.{statement}
-use Rattle.raw_proxy.proofs.outcome.Tie as tie
+use Rattle.raw_asked.proofs.outcome.Statement.{statement}
+use Rattle.raw_asked.proofs.outcome.Tie as tie
 
--- src/proxy.rt:138:9
 server-of-requires : tie.Need-server-of-requires
 server-of-requires c κs = search needs
 
--- src/proxy.rt:140:5
 standing-of-requires : tie.Need-standing-of-requires
 standing-of-requires c κs = search needs
 
--- src/proxy.rt:134:1
 returns : tie.Need-returns
 returns c = says-standing (c .before .before .args .server) (c .before .server-of .ensures) (c .standing-of .ensures)
 

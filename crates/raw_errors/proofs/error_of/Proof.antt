@@ -1,8 +1,8 @@
 use borrow.Author.Tests.{eq-eqb, ne-eqb}
-use Rattle.raw_numbers.specs.Numbers.{errorOf, laterError, errorAmong}
+use Rattle.raw_errors.specs.Errors.{errorOf, laterError, errorAmong}
 use borrow.Author.Needs.{needs}
-use Rattle.raw_numbers.proofs.error_of.Statement.{statement}
-use Rattle.raw_numbers.proofs.error_of.Tie as tie
+use Rattle.raw_errors.proofs.error_of.Statement.{statement}
+use Rattle.raw_errors.proofs.error_of.Tie as tie
 
 returns : tie.Need-returns
 unfolding errorOf errorAmong

@@ -1,7 +1,7 @@
-use Rattle.raw_calls.proofs.Laws.{says-fits, says-text}
+use Rattle.raw_told.proofs.Laws.{says-fits, says-text}
 use borrow.Author.Needs.{needs}
-use Rattle.raw_calls.proofs.bound_text.Statement.{statement}
-use Rattle.raw_calls.proofs.bound_text.Tie as tie
+use Rattle.raw_told.proofs.bound_text.Statement.{statement}
+use Rattle.raw_told.proofs.bound_text.Tie as tie
 
 session-of-requires : tie.Need-session-of-requires
 session-of-requires c κs = search needs

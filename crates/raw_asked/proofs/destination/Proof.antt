@@ -1,21 +1,17 @@
-use Rattle.raw_proxy.proofs.Laws.{says-target}
+use Rattle.raw_asked.proofs.Laws.{says-target}
 use borrow.Author.Needs.{needs}
-use Rattle.raw_proxy.proofs.destination.Statement.{statement}
-use Rattle.raw_proxy.proofs.destination.Tie as tie
+use Rattle.raw_asked.proofs.destination.Statement.{statement}
+use Rattle.raw_asked.proofs.destination.Tie as tie
 
--- src/proxy.rt:148:9
 server-of-requires : tie.Need-server-of-requires
 server-of-requires c κs = search needs
 
--- src/proxy.rt:149:9
 destination-requires : tie.Need-destination-requires
 destination-requires c κs = search needs
 
--- src/proxy.rt:155:15
 kind-number-requires : tie.Need-kind-number-requires
 kind-number-requires c κs = search needs
 
--- src/proxy.rt:144:1
 returns : tie.Need-returns
 returns c = says-target (c .before .before .before .before .args .server) (c .before .before .before .server-of .ensures) (c .before .before .destination .ensures) (c .kind-number .ensures)
 

@@ -1,7 +1,7 @@
 use borrow.Author.Tests.{eq-eqb, ne-eqb}
-use Rattle.raw_numbers.specs.Numbers.{laterError, errorAmong}
-use Rattle.raw_numbers.proofs.later_error.Statement.{statement}
-use Rattle.raw_numbers.proofs.later_error.Tie as tie
+use Rattle.raw_errors.specs.Errors.{laterError, errorAmong}
+use Rattle.raw_errors.proofs.later_error.Statement.{statement}
+use Rattle.raw_errors.proofs.later_error.Tie as tie
 
 returns : tie.Need-returns
 unfolding laterError errorAmong

@@ -1,7 +1,7 @@
-use Rattle.raw_calls.proofs.Laws.{says-outcome}
+use Rattle.raw_told.proofs.Laws.{says-outcome}
 use borrow.Author.Needs.{needs}
-use Rattle.raw_calls.proofs.outcome.Statement.{statement}
-use Rattle.raw_calls.proofs.outcome.Tie as tie
+use Rattle.raw_told.proofs.outcome.Statement.{statement}
+use Rattle.raw_told.proofs.outcome.Tie as tie
 
 session-of-requires : tie.Need-session-of-requires
 session-of-requires c κs = search needs
