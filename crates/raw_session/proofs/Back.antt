@@ -10,9 +10,9 @@ use Rattle.raw_errors.specs.Errors.{errorOf, errorAmong}
 use Rattle.raw_numbers.proofs.Back.{bit-back, kind-back}
 use Rattle.raw_errors.proofs.Back.{error-back}
 use Rattle.raw_session.proofs.Laws.{requests-as, session-as}
-use Rattle.raw_session.specs.Raw.{stageOf, stageNumber, stageError, stageStatus, sessionOf, rawOf, zeros}
+use Rattle.raw_session.specs.Raw.{stageOf, stageNumbers, sessionOf, rawOf, zeros}
 
-pub stage-back : (s : Stage) → stageOf (stageNumber s) (stageError s) (stageStatus s) ≡ s
+pub stage-back : (s : Stage) → stageOf (stageNumbers s .stage) (stageNumbers s .error) (stageNumbers s .status) ≡ s
 unfolding stageOf
 stage-back (Awaiting (NegotiationRes NoAuth)) = refl
 stage-back (Awaiting (NegotiationRes UserPass)) = refl

@@ -6,17 +6,20 @@ use Rattle.protocol.specs.declared.AddressKind.{AddressKind}
 use Rattle.protocol.specs.declared.Answer.{Answer}
 use Rattle.protocol.specs.declared.Outcome.{Outcome}
 use Rattle.protocol.specs.declared.Outcome.the-variants as outcomes
+use Rattle.protocol.specs.declared.Reply.{Reply}
 use Rattle.protocol.specs.declared.SocksError.{SocksError}
 use Rattle.protocol.specs.Numbers.{number, status, answerNumber}
 use Rattle.sending.specs.declared.Requests.{Requests}
 use Rattle.sending.specs.declared.Stage.{Stage}
+use Rattle.sending.specs.declared.Stage.the-variants.{Awaiting, Failed}
 use Rattle.session.specs.declared.Session.{Session}
 use Rattle.session.specs.Session.{outcome}
 use Rattle.raw_numbers.specs.Numbers.{truth, bit, kindOf, kindNumber}
 use Rattle.raw_session.specs.declared.RawSession.{RawSession}
 use Rattle.raw_session.specs.declared.RawOutcome.{RawOutcome}
 use Rattle.raw_session.specs.declared.RawStep.{RawStep}
-use Rattle.raw_session.specs.Raw.{stageOf, stageNumber, stageError, stageStatus, requestsOf, sessionOf, rawOf, outcomeOf, stepOf}
+use Rattle.raw_session.specs.declared.StageNumbers.{StageNumbers}
+use Rattle.raw_session.specs.Raw.{stageOf, replyNumber, stageNumbers, requestsOf, sessionOf, rawOf, outcomeOf, stepOf}
 
 abbrev requestsWith : RawSession → Bool → Requests
 requestsWith r o =
@@ -33,8 +36,14 @@ pub session-as : (r : RawSession) {g : Stage} {k : AddressKind} {b : Bool} {q : 
     → sessionWith r g k b q ≡ sessionOf r
 session-as r g k b q = λ i. sessionWith r (g i) (k i) (b i) (q i)
 
-abbrev rawWith : Session → ℕ → ℕ → ℕ → ℕ → ℕ → ℕ → RawSession
-rawWith s k n e t b o =
+pub awaiting-as : {g : Stage} {e : Reply} {n : ℕ} → g ≡ Awaiting e → n ≡ replyNumber e → _≡_ {A = StageNumbers} (record { stage = n; error = 0; status = 0 }) (stageNumbers g)
+awaiting-as g n = (λ i. record { stage = n i; error = 0; status = 0 }) ∙ ap stageNumbers (sym g)
+
+pub failing-as : {g : Stage} {e : SocksError} {n t : ℕ} → g ≡ Failed e → n ≡ number e → t ≡ status e → _≡_ {A = StageNumbers} (record { stage = 0; error = n; status = t }) (stageNumbers g)
+failing-as g n t = (λ i. record { stage = 0; error = n i; status = t i }) ∙ ap stageNumbers (sym g)
+
+abbrev rawWith : Session → ℕ → StageNumbers → ℕ → ℕ → RawSession
+rawWith s k g b o =
     record {
       attempts = s .attempts;
       held = s .held;
@@ -43,18 +52,18 @@ rawWith s k n e t b o =
       proxy = s .requests .lengths .proxy;
       port = s .bound .port;
       kind = k;
-      stage = n;
-      error = e;
-      status = t;
+      stage = g .stage;
+      error = g .error;
+      status = g .status;
       started = b;
       optimistic = o;
       hold = s .hold;
       requests = s .requests .bytes;
     }
 
-pub raw-as : (s : Session) {k n e t b o : ℕ} → k ≡ kindNumber (s .bound .kind) → n ≡ stageNumber (s .stage) → e ≡ stageError (s .stage) → t ≡ stageStatus (s .stage) → b ≡ bit (s .started) → o ≡ bit (s .requests .lengths .optimistic)
-    → rawWith s k n e t b o ≡ rawOf s
-raw-as s k n e t b o = λ i. rawWith s (k i) (n i) (e i) (t i) (b i) (o i)
+pub raw-as : (s : Session) {k : ℕ} {g : StageNumbers} {b o : ℕ} → k ≡ kindNumber (s .bound .kind) → g ≡ stageNumbers (s .stage) → b ≡ bit (s .started) → o ≡ bit (s .requests .lengths .optimistic)
+    → rawWith s k g b o ≡ rawOf s
+raw-as s k g b o = λ i. rawWith s (k i) (g i) (b i) (o i)
 
 pub failed-as : {o : Outcome} {e : SocksError} {n t : ℕ} → o ≡ outcomes.Failed e → n ≡ number e → t ≡ status e
     → _≡_ {A = RawOutcome} (record { state = 2; number = n; status = t }) (outcomeOf o)

@@ -21,6 +21,7 @@ use Rattle.raw_errors.specs.Errors.{errorOf}
 use Rattle.raw_session.specs.declared.RawSession.{RawSession}
 use Rattle.raw_session.specs.declared.RawOutcome.{RawOutcome}
 use Rattle.raw_session.specs.declared.RawStep.{RawStep}
+use Rattle.raw_session.specs.declared.StageNumbers.{StageNumbers}
 
 -- ---- the session that numbers mean
 
@@ -65,20 +66,10 @@ replyNumber AuthenticationRes = 4
 replyNumber ProxyRes = 5
 replyNumber Response = 6
 
-abbrev pub stageNumber : Stage → ℕ
-stageNumber (Awaiting e) = replyNumber e
-stageNumber Open = 7
-stageNumber (Failed x) = 0
-
-abbrev pub stageError : Stage → ℕ
-stageError (Awaiting e) = 0
-stageError Open = 0
-stageError (Failed x) = number x
-
-abbrev pub stageStatus : Stage → ℕ
-stageStatus (Awaiting e) = 0
-stageStatus Open = 0
-stageStatus (Failed x) = status x
+abbrev pub stageNumbers : Stage → StageNumbers
+stageNumbers (Awaiting e) = record { stage = replyNumber e; error = 0; status = 0 }
+stageNumbers Open = record { stage = 7; error = 0; status = 0 }
+stageNumbers (Failed x) = record { stage = 0; error = number x; status = status x }
 
 abbrev pub rawOf : Session → RawSession
 rawOf s =
@@ -90,9 +81,9 @@ rawOf s =
       proxy = s .requests .lengths .proxy;
       port = s .bound .port;
       kind = kindNumber (s .bound .kind);
-      stage = stageNumber (s .stage);
-      error = stageError (s .stage);
-      status = stageStatus (s .stage);
+      stage = stageNumbers (s .stage) .stage;
+      error = stageNumbers (s .stage) .error;
+      status = stageNumbers (s .stage) .status;
       started = bit (s .started);
       optimistic = bit (s .requests .lengths .optimistic);
       hold = s .hold;

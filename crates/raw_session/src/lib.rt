@@ -1,6 +1,6 @@
 // A session as numbers and arrays, by value, for programs in C and Rust.
 ghost use mathlib.Core.Path.{_≡_};
-ghost use Rattle.raw_session.specs.Raw.{stageOf, methodNumber, replyNumber, stageNumber, stageError, stageStatus, requestsOf, sessionOf, rawOf, outcomeOf, stepOf};
+ghost use Rattle.raw_session.specs.Raw.{stageOf, methodNumber, replyNumber, stageNumbers, requestsOf, sessionOf, rawOf, outcomeOf, stepOf};
 use error_numbers::answer_number;
 use error_numbers::number;
 use error_numbers::status;
@@ -57,6 +57,13 @@ pub struct RawStep {
     pub outcome: RawOutcome,
 }
 
+// What a session's numbers say of its stage.
+struct StageNumbers {
+    stage: u8,
+    error: u8,
+    status: u8,
+}
+
 // The stage of a number: failed for one that no other stage has.
 fn stage_of(n: u8, error: u8, status: u8) -> Stage
     ensures { λ r. ⌜ r ≡ stageOf n error status ⌝ }
@@ -106,33 +113,25 @@ fn reply_number(reply: Reply) -> u8
     }
 }
 
-fn stage_number(stage: Stage) -> u8
-    ensures { λ r. ⌜ r ≡ stageNumber stage ⌝ }
+fn stage_numbers(stage: Stage) -> StageNumbers
+    ensures { λ r. ⌜ r ≡ stageNumbers stage ⌝ }
 {
     match stage {
-        Stage::Awaiting(reply) => reply_number(reply),
-        Stage::Open => 7,
-        Stage::Failed(error) => 0,
-    }
-}
-
-fn stage_error(stage: Stage) -> u8
-    ensures { λ r. ⌜ r ≡ stageError stage ⌝ }
-{
-    match stage {
-        Stage::Awaiting(reply) => 0,
-        Stage::Open => 0,
-        Stage::Failed(error) => number(error),
-    }
-}
-
-fn stage_status(stage: Stage) -> u8
-    ensures { λ r. ⌜ r ≡ stageStatus stage ⌝ }
-{
-    match stage {
-        Stage::Awaiting(reply) => 0,
-        Stage::Open => 0,
-        Stage::Failed(error) => status(error),
+        Stage::Awaiting(reply) => StageNumbers {
+            stage: reply_number(reply),
+            error: 0,
+            status: 0,
+        },
+        Stage::Open => StageNumbers {
+            stage: 7,
+            error: 0,
+            status: 0,
+        },
+        Stage::Failed(error) => StageNumbers {
+            stage: 0,
+            error: number(error),
+            status: status(error),
+        },
     }
 }
 
@@ -178,6 +177,7 @@ pub fn raw_of(session: Session) -> RawSession
     ensures { λ r. ⌜ r ≡ rawOf session ⌝ }
 {
     let stage = session.stage;
+    let numbers = stage_numbers(stage);
     let bound = session.bound;
     let kind = bound.kind;
     let hold = session.hold;
@@ -192,9 +192,9 @@ pub fn raw_of(session: Session) -> RawSession
         proxy: lengths.proxy,
         port: bound.port,
         kind: kind_number(kind),
-        stage: stage_number(stage),
-        error: stage_error(stage),
-        status: stage_status(stage),
+        stage: numbers.stage,
+        error: numbers.error,
+        status: numbers.status,
         started: bit(session.started),
         optimistic: bit(lengths.optimistic),
         hold: hold,

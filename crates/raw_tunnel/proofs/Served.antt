@@ -26,7 +26,7 @@ use Rattle.raw_server.proofs.Back.{server-back}
 use Rattle.raw_asked.specs.Asked.{targetOf}
 use Rattle.raw_tunnel.specs.Demand3.{Lent}
 use Rattle.raw_tunnel.specs.Served as raw
-use Rattle.raw_tunnel.specs.Served.{returned, rawStanding, rawTarget, standingNumbers, RawServed3, RawServing, Zeros}
+use Rattle.raw_tunnel.specs.Served.{returned, rawStanding, rawTarget, standingNumbers, RawServes, RawServing, Zeros}
 use Rattle.raw_tunnel.proofs.Carried.{Carried, carries, lends-as}
 use Rattle.talk.specs.Tunnel.{Delivery, answerTo, after}
 
@@ -60,7 +60,7 @@ module _ (c : Setup) (s : Server) (served : (ds : List Delivery) → Served c s 
     targets =
         ap rawTarget (carried .session) ∙ ap (λ (t : Server). targetOf (destination t)) (server-back e) ∙ ap targetOf (served ds .destination-as) ∙ rw (carried .joins)
 
-  raw-served : (ds : List Delivery) → Lent ds → RawServed3 c (rawOf s) ds
+  raw-served : (ds : List Delivery) → Lent ds → RawServes c (rawOf s) ds
   raw-served ds l =
       let h = served ds in
       let w = carried ds l in

@@ -55,7 +55,7 @@ pub record Alike (t u : Tunnel RawServer) : Type 0 where
   pub rest : t .rest ≡ u .rest
 
 -- of what an end was set up with, and the end that set-up returned
-pub record RawServed3 (c : Setup) (r : RawServer) (ds : List Delivery) : Type 0 where
+pub record RawServes (c : Setup) (r : RawServer) (ds : List Delivery) : Type 0 where
   -- all sent bytes are the plain machine's on the joined bytes, and so is how the end stands, and the destination handed out
   pub sent-as : tunnelOf r ds .sent ≡ machine c (joinedOf ds) .sent
   pub standing-as : rawStanding (tunnelOf r ds .session) ≡ standingNumbers (machine c (joinedOf ds) .standing)
@@ -69,7 +69,7 @@ pub record RawServed3 (c : Setup) (r : RawServer) (ds : List Delivery) : Type 0 
 -- for any arguments of the set-up, if it answers 0
 abbrev pub RawServing : Type 0
 RawServing = (authenticates : ℕ) (user password : List ℕ) → setUpServed (setUp (truth authenticates) user password) .answer ≡ 0 → (ds : List Delivery) → Lent ds
-    → RawServed3 (setupFor (truth authenticates) user password) (setUpServed (setUp (truth authenticates) user password) .server) ds
+    → RawServes (setupFor (truth authenticates) user password) (setUpServed (setUp (truth authenticates) user password) .server) ds
 
 -- all zeros is an end that refuses everything
 pub record Zeros : Type 0 where
