@@ -1,6 +1,6 @@
 // A session as numbers and arrays, by value, for programs in C and Rust.
 ghost use mathlib.Core.Path.{_≡_};
-ghost use Rattle.raw_session.specs.Raw.{stageOf, methodNumber, replyNumber, stageNumbers, requestsOf, sessionOf, rawOf, outcomeOf, stepOf};
+ghost use Rattle.raw_session.specs.Raw.{stageOf, methodNumber, replyNumber, stageNumbers, sessionOf, rawOf, outcomeOf, stepOf};
 use error_numbers::answer_number;
 use error_numbers::number;
 use error_numbers::status;
@@ -135,31 +135,22 @@ fn stage_numbers(stage: Stage) -> StageNumbers
     }
 }
 
-fn requests_of(raw: RawSession) -> Requests
-    ensures { λ r. ⌜ r ≡ requestsOf raw ⌝ }
-{
-    let bytes = raw.requests;
-    let lengths = Lengths {
-        optimistic: truth(raw.optimistic),
-        first: raw.first,
-        authentication: raw.authentication,
-        proxy: raw.proxy,
-    };
-    Requests {
-        lengths: lengths,
-        bytes: bytes,
-    }
-}
-
 // The session that numbers mean.
 pub fn session_of(raw: RawSession) -> Session
     ensures { λ r. ⌜ r ≡ sessionOf raw ⌝ }
 {
     let hold = raw.hold;
+    let bytes = raw.requests;
     let stage = stage_of(raw.stage, raw.error, raw.status);
     let bound = Bound {
         kind: kind_of(raw.kind),
         port: raw.port,
+    };
+    let lengths = Lengths {
+        optimistic: truth(raw.optimistic),
+        first: raw.first,
+        authentication: raw.authentication,
+        proxy: raw.proxy,
     };
     Session {
         stage: stage,
@@ -168,7 +159,10 @@ pub fn session_of(raw: RawSession) -> Session
         hold: hold,
         bound: bound,
         attempts: raw.attempts,
-        requests: requests_of(raw),
+        requests: Requests {
+            lengths: lengths,
+            bytes: bytes,
+        },
     }
 }
 
@@ -227,7 +221,8 @@ pub fn outcome_of(outcome: Outcome) -> RawOutcome
 pub fn step(answer: Answer, session: Session, used: usize, sent: usize) -> RawStep
     ensures { λ r. ⌜ r ≡ stepOf answer session used sent ⌝ }
 {
-    let outcome = session.outcome();
+    let stage = session.stage;
+    let outcome = stages::outcome(stage);
     RawStep {
         session: raw_of(session),
         used: used,

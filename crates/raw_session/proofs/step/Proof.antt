@@ -1,3 +1,4 @@
+use Rattle.session.specs.Session.{heldBytes}
 use Rattle.raw_session.proofs.Laws.{step-as}
 use borrow.Author.Needs.{needs}
 use Rattle.raw_session.proofs.step.Statement.{statement}
@@ -16,7 +17,7 @@ outcome-of-requires : tie.Need-outcome-of-requires
 outcome-of-requires c κs = search needs
 
 returns : tie.Need-returns
-returns c = step-as (c .before .before .before .before .args .answer) (c .before .before .before .before .args .session) (c .before .before .before .before .args .used) (c .before .before .before .before .args .sent) (c .before .before .before .outcome .ensures) (c .before .before .raw-of .ensures) (c .before .answer-number .ensures) (c .outcome-of .ensures)
+returns c = let s = c .before .before .before .before .args .session in step-as (c .before .before .before .before .args .answer) s (c .before .before .before .before .args .used) (c .before .before .before .before .args .sent) (c .before .before .before .outcome .ensures (s .bound) (heldBytes s)) (c .before .before .raw-of .ensures) (c .before .answer-number .ensures) (c .outcome-of .ensures)
 
 pub step-spec : {M : Type 1} → statement M
 step-spec =
