@@ -1,9 +1,10 @@
--- F-4: all waits of a talk ask for the output of one version, so a session asks for its opening's as long as it waits.
-use Prim.Native.Nat.{ℕ}
+-- F-4: all waits of a talk ask for the output of one version, so a session asks for its opening's as long as it waits; and sends no more.
+use Prim.Native.Nat.{ℕ, _+_, _-_, _≤_}
+use native.Mathlib.Omega.{arith}
 use mathlib.Core.Path.{_≡_, refl}
-use mathlib.Core.Bool.{Bool, true, false}
+use mathlib.Core.Bool.{Bool, true, false, cond}
 use mathlib.Core.List.{List}
-use lib.ListN.{take, drop}
+use lib.ListN.{length, take, drop}
 use Rattle.protocol.specs.declared.AuthMethod.{AuthMethod}
 use Rattle.protocol.specs.declared.AuthMethod.the-variants.{NoAuth, UserPass, NoneAcceptable}
 use Rattle.protocol.specs.declared.Reply.{Reply}
@@ -11,9 +12,10 @@ use Rattle.protocol.specs.declared.Reply.the-variants.{NegotiationRes, A
 use Rattle.protocol.specs.declared.SocksError.{SocksError}
 use Rattle.protocol.specs.Opening.{Opening, v5, v4, noAuth, userPass, deliveryRoom}
 use Rattle.protocol.specs.Replies.{decide}
-use Rattle.protocol.specs.Client.{Kept, ClientTalk, due, afterMethod, talkAt, told, client, kept, begun, side, room, Waits}
+use Rattle.protocol.specs.Client.{Kept, ClientTalk, due, atProxyRes, atAuthenticationRes, afterMethod, talkAt, told, client, kept, begun, side, room, Waits}
 use Rattle.talk.specs.Decision.{Decision, undecided, decided, good, bad}
 use Rattle.talk.specs.Talk.{waiting, stop, send, await, deciding, feed}
+use Rattle.talk.proofs.Sends.{Sends, sends-more, sends-fed}
 
 abbrev Asks : ℕ → ClientTalk → Type 0
 Asks r (stop e) = Unit {0}
@@ -59,3 +61,50 @@ begun-waits o bs = feed-waits (kept o) (deliveryRoom o) (begun o) (begun-asks o)
 
 pub onward-waits : (c : Kept) (r : ℕ) (e : Reply) → room e ≡ r → (bs : List ℕ) → Waits r (feed (client c) (talkAt c e) bs .session)
 onward-waits c r e q bs = rw (← q) (feed-waits c (room e) (talkAt c e) (talk-asks c e) bs)
+
+-- what a session may still send, if what is kept is within its limits: optimistically nothing, and nothing over v4
+abbrev pub sendsMost : Bool → Reply → ℕ
+sendsMost o (NegotiationRes m) = cond o 0 775
+sendsMost o AuthenticationRes = cond o 0 775
+sendsMost o ProxyRes = cond o 0 775
+sendsMost o Response = 0
+
+-- that is no more than it asks
+pub asks-more : (o : Bool) (e : Reply) → sendsMost o e ≤ room e
+asks-more true (NegotiationRes m) = omega arith
+asks-more true AuthenticationRes = omega arith
+asks-more true ProxyRes = omega arith
+asks-more false (NegotiationRes m) = omega arith
+asks-more false AuthenticationRes = omega arith
+asks-more false ProxyRes = omega arith
+asks-more o Response = omega arith
+
+-- a request of n bytes, and k behind it
+due-sends : (n k : ℕ) (o : Bool) (q : List ℕ) (t : ClientTalk) → length q ≤ n → Sends (cond o 0 k) t → Sends (cond o 0 (n + k)) (due o q t)
+due-sends n k true q t h p = p
+due-sends n k false q t h p = (omega arith, sends-more k (n + k - length q) t (omega arith) p)
+
+none-sends : (o : Bool) (n : ℕ) (t : ClientTalk) → Sends 0 t → Sends (cond o 0 n) t
+none-sends o n t p = sends-more 0 (cond o 0 n) t (omega arith) p
+
+few-sends : (o : Bool) (n k : ℕ) (t : ClientTalk) → n ≤ k → Sends (cond o 0 n) t → Sends (cond o 0 k) t
+few-sends true n k t h p = p
+few-sends false n k t h p = sends-more n k t h p
+
+module _ (c : Kept) (a : length (c .authentication) ≤ 513) (p : length (c .proxy) ≤ 262) where
+  proxy-sends : Sends (cond (c .optimistic) 0 (262 + 0)) (due (c .optimistic) (c .proxy) atProxyRes)
+  proxy-sends = due-sends 262 0 (c .optimistic) (c .proxy) atProxyRes p (none-sends (c .optimistic) 0 atProxyRes (λ m. tt))
+
+  method-sends : (m : AuthMethod) → Sends (cond (c .optimistic) 0 775) (afterMethod m c)
+  method-sends NoAuth = few-sends (c .optimistic) (262 + 0) 775 (afterMethod NoAuth c) (omega arith) proxy-sends
+  method-sends UserPass = due-sends 513 262 (c .optimistic) (c .authentication) (atAuthenticationRes c) a (λ m. proxy-sends)
+  method-sends NoneAcceptable = tt
+
+  talk-sends : (e : Reply) → Sends (sendsMost (c .optimistic) e) (talkAt c e)
+  talk-sends (NegotiationRes m) = λ r. method-sends m
+  talk-sends AuthenticationRes = λ m. few-sends (c .optimistic) (262 + 0) 775 (due (c .optimistic) (c .proxy) atProxyRes) (omega arith) proxy-sends
+  talk-sends ProxyRes = λ m. tt
+  talk-sends Response = λ m. tt
+
+  pub onward-sends : (e : Reply) (bs : List ℕ) → length (feed (client c) (talkAt c e) bs .sent) ≤ sendsMost (c .optimistic) e
+  onward-sends e bs = sends-fed (client c) (sendsMost (c .optimistic) e) (talkAt c e) (talk-sends e) bs

@@ -34,8 +34,8 @@ use Rattle.routing.specs.Route.{Proxy, Asked, over5, over4, askedBy, askedOf, o
 use Rattle.routing.proofs.Rooms.{each-limits}
 use Rattle.route_calls.specs.declared.Route.{Route}
 use Rattle.route_calls.specs.Calls as route
-use Rattle.route_calls.specs.Calls.{behindIn, roomIn, sessionIn, withSession, outcome, isOver, startedFor, openBy, opening, deliver, receiver, end}
-use Rattle.route.specs.Routed.{Told, told, toldBy, Lent, AsOne, Single}
+use Rattle.route_calls.specs.Calls.{behindIn, roomIn, sessionIn, withSession, outcome, isOver, startedFor, openBy, opening, deliver, end}
+use Rattle.route.specs.Routed.{receiver, sessionReceiver, Told, told, toldBy, Lent, AsOne, Single}
 use Rattle.route.proofs.Relays.{room-small}
 use Rattle.route_opening.proofs.Kept.{requests-at}
 use Rattle.talk.specs.Talk as talk
@@ -84,7 +84,7 @@ abbrev Same : (Route → Session → Type 0) → route.Call → Call → Type 0
 Same R c d = (told outcome c ≡ told session.outcome d) × R (c .session) (d .session)
 
 abbrev Step : (Route → Session → Type 0) → Type 0
-Step R = (r : Route) (s : Session) → R r s → (d : Delivery) → 1024 ≤ length (d .output) → Same R (answerTo (receiver 1024) r d) (answerTo (session-calls.receiver 1024) s d)
+Step R = (r : Route) (s : Session) → R r s → (d : Delivery) → 1024 ≤ length (d .output) → Same R (answerTo (receiver 1024) r d) (answerTo (sessionReceiver 1024) s d)
 
 module _ (r : Route) (one : r .count ≡ 1) where
   none-behind : behindIn r ≡ 0
@@ -113,7 +113,7 @@ module _ (r : Route) (one : r .count ≡ 1) where
         subst (λ (t : Session). One (withSession r 0 (takes (sessionIn r) piece zs .session)) t) (w .session) (left (takes (sessionIn r) piece zs .session) (w .going) (w .kept)),
       )
 
-  step-in : (d : Delivery) → 1024 ≤ length (d .output) → Same One (answerTo (receiver 1024) r d) (answerTo (session-calls.receiver 1024) (sessionIn r) d)
+  step-in : (d : Delivery) → 1024 ≤ length (d .output) → Same One (answerTo (receiver 1024) r d) (answerTo (sessionReceiver 1024) (sessionIn r) d)
   step-in d h =
       let s = sessionIn r in
       let zs : List ℕ = replicate 1024 0 in
@@ -129,7 +129,7 @@ module _ (r : Route) (one : r .count ≡ 1) where
       go false = moved (d .piece) (d .output) (replicate 1024 0)
 
 step-one : Step One
-step-one r s w d h = subst (λ (t : Session). Same One (answerTo (receiver 1024) r d) (answerTo (session-calls.receiver 1024) t d)) (w .is) (step-in r (w .count) d h)
+step-one r s w d h = subst (λ (t : Session). Same One (answerTo (receiver 1024) r d) (answerTo (sessionReceiver 1024) t d)) (w .is) (step-in r (w .count) d h)
 
 ends-in : (r : Route) → told outcome (end r) ≡ told session.outcome (session-calls.end (sessionIn r))
 unfolding end session-calls.end
@@ -172,7 +172,7 @@ module _ (e : SocksError) where
 
 module _ (R : Route → Session → Type 0) (step : Step R) where
   all-same : (ds : List Delivery) → Lent ds → (r : Route) (s : Session) → R r s
-      → (toldBy outcome (receiver 1024) r ds ≡ toldBy session.outcome (session-calls.receiver 1024) s ds) × R (after (receiver 1024) r ds) (after (session-calls.receiver 1024) s ds)
+      → (toldBy outcome (receiver 1024) r ds ≡ toldBy session.outcome (sessionReceiver 1024) s ds) × R (after (receiver 1024) r ds) (after (sessionReceiver 1024) s ds)
   unfolding toldBy after
   all-same [] l r s w = (refl, w)
   all-same (d ∷ ds) l r s w =

@@ -17,7 +17,7 @@ use Rattle.protocol.specs.Machine.{Machine}
 use Rattle.protocol.specs.Client as client
 use Rattle.sending.specs.Stages.{SideSession}
 use Rattle.session.specs.Session.{view}
-use Rattle.session.specs.Calls as session
+use Rattle.socks.specs.Demand3 as sessions
 use Rattle.socks.proofs.Tunnels as socks
 use Rattle.relaying.specs.declared.Hop as relaying
 use Rattle.relaying.specs.Relay.{Relay, relayed}
@@ -27,8 +27,8 @@ use Rattle.routing.proofs.Lawful.{route-lawful, through-shaped}
 use Rattle.routing.proofs.Machines.{machines-feed, used-in-turn}
 use Rattle.routing.proofs.Sequences.{in-turn-just, in-turn-one}
 use Rattle.route_calls.specs.declared.Route.{Route}
-use Rattle.route_calls.specs.Calls.{behindIn, roomIn, sessionIn, withSession, outcome, bound, refusal, takes, deliver, receiver}
-use Rattle.route.specs.Routed.{tunnelOf, joinedOf, Alike, attemptsInTurn, lending, Routed}
+use Rattle.route_calls.specs.Calls.{behindIn, roomIn, sessionIn, withSession, outcome, bound, refusal, takes, deliver}
+use Rattle.route.specs.Routed.{receiver, tunnelOf, joinedOf, Alike, attemptsInTurn, lending, Routed}
 use Rattle.route.proofs.Relays.{keptAt, standsAt, Onward, relayed-onward}
 use Rattle.talk.specs.Talk as talk
 use Rattle.talk.specs.Talk.{done, failed, waiting, ended, feed, reached}
@@ -169,7 +169,7 @@ fed o os r sent b ds =
     }
 
 -- the joined bytes are bytes, as a session's are
-joined-any : (room : ℕ) (ds : List Delivery) → joined (session.receiver room) ds ≡ joined (receiver room) ds
+joined-any : (room : ℕ) (ds : List Delivery) → joined (sessions.receiver room) ds ≡ joined (receiver room) ds
 unfolding joined
 joined-any room [] = refl
 joined-any room (d ∷ ds) = ap (λ (bs : List ℕ). cond (leb room (length (d .output))) (d .piece) [] ++ bs) (joined-any room ds)

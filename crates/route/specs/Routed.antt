@@ -13,6 +13,7 @@ use Rattle.protocol.specs.declared.Outcome.the-variants.{Waiting, Open, Failed}
 use Rattle.protocol.specs.Bound.{addressOf}
 use Rattle.protocol.specs.Opening.{Opening}
 use Rattle.protocol.specs.Machine.{machine}
+use Rattle.session.specs.declared.Session.{Session}
 use Rattle.session.specs.Session as session
 use Rattle.session.specs.Calls as session-calls
 use Rattle.protocol.specs.Bytes.{BytePieces}
@@ -22,10 +23,13 @@ use Rattle.planning.specs.Plan.{preparedFor}
 use Rattle.routing.specs.Route as routing
 use Rattle.routing.specs.Route.{Proxy, Asked, askedBy, roomFor, openings, machines, usedInTurn, RepliedInTurn, JustOneRow}
 use Rattle.route_calls.specs.declared.Route.{Route}
-use Rattle.route_calls.specs.Calls.{outcome, bound, opening, receiver, end}
+use Rattle.route_calls.specs.Calls.{outcome, bound, opening, deliver, end}
 use Rattle.talk.specs.Tunnel.{Answer, Receiver, Delivery, lends, answerTo, after, joined, Tunnel, tunnel}
 
--- ---- deliveries to a route of so many openings count if they lend 1,024 bytes for each
+-- ---- a route takes pieces by the exported call; those deliveries to a route of so many openings count that lend 1,024 bytes for each
+
+abbrev pub receiver : ℕ → Receiver Route code.Answer
+receiver room = record { room = room; deliver = deliver }
 
 abbrev pub receiverOf : List Opening → Receiver Route code.Answer
 receiverOf os = receiver (roomFor (length os))
@@ -110,6 +114,10 @@ unfoldable pub toldBy : {X : Type 0} → (X → Outcome) → Receiver X code.Ans
 toldBy how K s [] = []
 toldBy how K s (d ∷ ds) = told how (answerTo K s d) ∷ toldBy how K (answerTo K s d .session) ds
 
+-- that proxy's session takes the same pieces
+abbrev pub sessionReceiver : ℕ → Receiver Session code.Answer
+sessionReceiver room = record { room = room; deliver = session-calls.deliver }
+
 -- each lends 1,024 bytes or more
 abbrev pub Lent : List Delivery → Type 0
 Lent ds = (d : Delivery) → List·Memᴰ d ds → 1024 ≤ length (d .output)
@@ -118,9 +126,9 @@ Lent ds = (d : Delivery) → List·Memᴰ d ds → 1024 ≤ length (d .output)
 pub record AsOne (a : routing.Route) (b : Asked) (out : List ℕ) (ds : List Delivery) : Type 0 where
   pub first : told outcome (opening a out) ≡ told session.outcome (inTwo (preparedFor b) out)
   pub deliveries : toldBy outcome (receiver 1024) (opening a out .session) ds
-      ≡ toldBy session.outcome (session-calls.receiver 1024) (inTwo (preparedFor b) out .session) ds
+      ≡ toldBy session.outcome (sessionReceiver 1024) (inTwo (preparedFor b) out .session) ds
   pub ending : told outcome (end (after (receiver 1024) (opening a out .session) ds))
-      ≡ told session.outcome (session-calls.end (after (session-calls.receiver 1024) (inTwo (preparedFor b) out .session) ds))
+      ≡ told session.outcome (session-calls.end (after (sessionReceiver 1024) (inTwo (preparedFor b) out .session) ds))
 
 -- for every route of one proxy, any output of 1,024 bytes or more, and every list of deliveries that lend as much
 abbrev pub Single : Proxy → List ℕ → Port → Type 0

@@ -29,7 +29,7 @@ use Rattle.route_calls.specs.declared.Opened.{Opened}
 use Rattle.route_calls.specs.declared.Delivered.{Delivered}
 use Rattle.route_calls.specs.declared.Ended.{Ended}
 use Rattle.talk.specs.Talk as talk
-use Rattle.talk.specs.Tunnel.{Answer, Receiver}
+use Rattle.talk.specs.Tunnel.{Answer}
 
 abbrev pub Call : Type 0
 Call = Answer Route code.Answer
@@ -166,10 +166,6 @@ takes r piece out = moves r (relayed (r .hops) (r .bytes) (behindIn r) (sessionI
 
 unfoldable pub deliver : Route → List ℕ → List ℕ → Call
 deliver r piece out = cond (isOver r) (refusal Settled r out) (cond (leb (roomIn r) (length out)) (takes r piece out) (refusal ShortOutput r out))
-
--- routes take deliveries, of which those count that lend so much output
-abbrev pub receiver : ℕ → Receiver Route code.Answer
-receiver room = record { room = room; deliver = deliver }
 
 -- ---- End of stream: as that of the proxy's session
 

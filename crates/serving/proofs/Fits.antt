@@ -5,7 +5,7 @@ use native.Mathlib.Omega.{arith}
 use mathlib.Core.Path.{_≡_, refl, subst}
 use mathlib.Core.Bool.{Bool, true, false, cond, _&&_}
 use mathlib.Core.List.{List, _++_}
-use lib.ListN.{length, take, drop, length-append, length-take, take-append-drop}
+use lib.ListN.{length, take, drop, length-take, take-append-drop}
 use lib.Dec.{eqb, lit≤}
 use Rattle.protocol.specs.declared.SocksError.{SocksError}
 use Rattle.protocol.specs.Bytes.{Bytes, byte}
@@ -18,13 +18,14 @@ use Rattle.serving.specs.declared.Field.{Field}
 use Rattle.serving.specs.declared.Field.the-variants.{First, Methods, User, Password, Head, Address, Request, UserId, Name}
 use Rattle.serving.specs.Reads.{Seen, short, wrong, unknown, whole, textIn}
 use Rattle.serving.specs.End.{Setup, Asked, chosen, offers, same}
-use Rattle.serving.specs.Side.{reads, readName, EndTalk, EndSession, refuses, targetOf, atAddress, isKnown, atHead, atPassword, atUser, atMethods, portsOf, ipOf, unlessOther4, atName, atUserId, atRequest, talkAt, server}
+use Rattle.serving.specs.Side.{reads, readName, EndTalk, refuses, targetOf, atAddress, isKnown, atHead, atPassword, atUser, atMethods, portsOf, ipOf, unlessOther4, atName, atUserId, atRequest, talkAt, server}
 use Rattle.serving.proofs.Side.{server-lawful, held-most}
 use Rattle.serving.proofs.Texts.{text-is}
 use Rattle.talk.specs.Decision.{Decision, undecided, decided, good, bad}
-use Rattle.talk.specs.Talk.{done, stop, send, await, waiting, ended, Fed, deciding, feed, heldBy}
+use Rattle.talk.specs.Talk.{done, stop, send, await, waiting, ended, deciding, feed, heldBy}
 use Rattle.talk.specs.Lawful.{Accepts}
 use Rattle.talk.proofs.Accept.{parsed}
+use Rattle.talk.proofs.Sends.{Sends, sends-more, sends-cond, sends-fed}
 
 bytes-behind : (n : ℕ) (bs : List ℕ) → Bytes bs → Bytes (drop n bs)
 bytes-behind n bs y = bytes-right (take n bs) (drop n bs) (rw (take-append-drop n bs) y)
@@ -153,36 +154,7 @@ feed-target c f bs y x q =
 
 -- ---- what is sent
 
--- at most so many bytes, whatever is read
-abbrev Sends : ℕ → EndTalk → Type 0
-Sends n (stop e) = Unit {0}
-Sends n (send q t) = (length q ≤ n) × Sends (n - length q) t
-Sends n (await s k) = (m : List ℕ) → Sends n (k m)
-
-sends-more : (n k : ℕ) (t : EndTalk) → n ≤ k → Sends n t → Sends k t
-sends-more n k (stop e) h p = tt
-sends-more n k (send q t) h p = (le-trans (p .0) h, sends-more (n - length q) (k - length q) t (omega arith) (p .1))
-sends-more n k (await s f) h p = λ m. sends-more n k (f m) h (p m)
-
-sends-cond : (n : ℕ) (b : Bool) (t u : EndTalk) → Sends n t → Sends n u → Sends n (cond b t u)
-sends-cond n true t u p q = p
-sends-cond n false t u p q = q
-
 module _ (c : Setup) where
-  sends-await : (n : ℕ) (d : Decision SocksError) (s : EndSession) (on : ℕ → Fed Field Asked SocksError) → ((k : ℕ) → length (on k .sent) ≤ n) → length (deciding d s on .sent) ≤ n
-  sends-await n undecided s on ih = zero-le
-  sends-await n (decided k good) s on ih = ih k
-  sends-await n (decided k (bad e)) s on ih = zero-le
-
-  sends-fed : (n : ℕ) (t : EndTalk) → Sends n t → (bs : List ℕ) → length (feed (server c) t bs .sent) ≤ n
-  unfolding feed
-  sends-fed n (stop e) p bs = zero-le
-  sends-fed n (send q t) p bs =
-      let h = p .0 in
-      let ih = sends-fed (n - length q) t (p .1) bs in
-      omega (arith, length-append q (feed (server c) t bs .sent))
-  sends-fed n (await s k) p bs = sends-await n (reads s bs) (waiting s bs) (λ i. feed (server c) (k (take i bs)) (drop i bs)) (λ i. sends-fed n (k (take i bs)) (p (take i bs)) (drop i bs))
-
   sends-address : (command type : ℕ) → Sends 10 (atAddress command type)
   sends-address command type m = sends-cond 10 (eqb command 1) _ _ tt (lit≤ tt, tt)
 
@@ -224,4 +196,4 @@ module _ (c : Setup) where
   sends-at (Name p) = sends-more 8 14 (atName c p) (lit≤ tt) (sends-name p)
 
 pub feed-sent : (c : Setup) (f : Field) (bs : List ℕ) → length (feed (server c) (talkAt c f) bs .sent) ≤ 14
-feed-sent c f bs = sends-fed c 14 (talkAt c f) (sends-at c f) bs
+feed-sent c f bs = sends-fed (server c) 14 (talkAt c f) (sends-at c f) bs

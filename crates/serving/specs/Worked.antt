@@ -4,33 +4,46 @@ use mathlib.Core.Path.{_≡_}
 use mathlib.Core.Bool.{true, false}
 use mathlib.Core.List.{List, [], _∷_, _++_}
 use lib.ListN.{replicate}
-use Rattle.protocol.specs.declared.SocksError.the-variants.{Unsupported, Command, Malformed, WrongCredentials}
+use Rattle.protocol.specs.Numbers.{number, status, numbers}
 use Rattle.protocol.specs.declared.Version.the-variants.{V4, V5}
 use Rattle.protocol.specs.AddressReading.{ipv4, ipv6, domain}
 use Rattle.protocol.specs.Bound.{endpoint}
 use Rattle.serving.specs.declared.Field.the-variants.{First}
-use Rattle.serving.specs.declared.Stage.the-variants.{Open, Failed}
-use Rattle.serving.specs.End.{Setup, asked, Standing, waits, asks, fails, machine, used, reply5, reply4, stageAfter}
+use Rattle.serving.specs.declared.Stage.{Stage}
+use Rattle.serving.specs.declared.Stage.the-variants as stage
+use Rattle.serving.specs.End as end
+use Rattle.serving.specs.End.{Setup, Asked, asked, Standing, machine, used, reply5, reply4, stageAfter}
 use Rattle.serving.specs.Side.{talkAt, server, standingOf}
 use Rattle.talk.specs.Talk.{feed, reached}
 
+-- how it stands, a failure by document 01's number and its status
+pub data Shown : Type 0 where
+  waits : Shown
+  asks : Asked → Shown
+  fails : ℕ → ℕ → Shown
+
+abbrev pub shown : Standing → Shown
+shown end.waits = waits
+shown (end.asks x) = asks x
+shown (end.fails e) = fails (number e) (status e)
+
 pub record Outcome : Type 0 where
   pub sent : List ℕ
-  pub standing : Standing
+  pub standing : Shown
   pub used : ℕ
 
-abbrev pub outcome : List ℕ → Standing → ℕ → Outcome
+abbrev pub outcome : List ℕ → Shown → ℕ → Outcome
 outcome sent s n = record { sent = sent; standing = s; used = n }
 
 abbrev pub plain : Setup → List ℕ → Outcome
-plain c bs = outcome (machine c bs .sent) (machine c bs .standing) (used c bs)
+plain c bs = outcome (machine c bs .sent) (shown (machine c bs .standing)) (used c bs)
 
 abbrev pub fed : Setup → List ℕ → Outcome
 fed c bs =
     let f = feed (server c) (talkAt c First) bs in
-    outcome (f .sent) (standingOf (f .session)) (reached f)
+    outcome (f .sent) (shown (standingOf (f .session))) (reached f)
 
-abbrev pub Gives : Setup → List ℕ → List ℕ → Standing → ℕ → Type 0
+abbrev pub Gives : Setup → List ℕ → List ℕ → Shown → ℕ → Type 0
 Gives c bs sent s n = (plain c bs ≡ outcome sent s n) × (fed c bs ≡ outcome sent s n)
 
 -- ---- what is set up, and what a client sends
@@ -63,52 +76,59 @@ request command more = 0x04 ∷ command ∷ 0x00 ∷ 0x50 ∷ 1 ∷ 2 ∷ 3 ∷ 
 abbrev pub announced : List ℕ → List ℕ
 announced more = 0x04 ∷ 0x01 ∷ 0x00 ∷ 0x50 ∷ 0 ∷ 0 ∷ 0 ∷ 1 ∷ 0x00 ∷ more
 
+-- a stage's number and status: 0 unless it has failed
+abbrev pub failure : Stage → ℕ × ℕ
+failure (stage.Awaiting f) = (0, 0)
+failure (stage.Asked v) = (0, 0)
+failure (stage.Open v) = (0, 0)
+failure (stage.Failed e) = numbers e
+
 -- ---- the document's sentences
 
 pub record Worked : Type 0 where
   -- "their first byte, `05` or `04`, picks the version": till it is there nothing is known, and another is wrong at once
   pub noByte : Gives anyone [] [] waits 0
-  pub version : Gives anyone (0x06 ∷ 0x01 ∷ []) [] (fails Malformed) 1
+  pub version : Gives anyone (0x06 ∷ 0x01 ∷ []) [] (fails 19 0) 1
   -- "a greeting with 1 to 255 methods": a count of 0 is wrong at its byte; 255 methods are read to the last
-  pub countNone : Gives anyone (0x05 ∷ 0x00 ∷ []) [] (fails Malformed) 2
+  pub countNone : Gives anyone (0x05 ∷ 0x00 ∷ []) [] (fails 19 0) 2
   pub countMost : Gives anyone (0x05 ∷ 0xFF ∷ (replicate 254 0x01 ++ (0x00 ∷ []))) (0x05 ∷ 0x00 ∷ []) waits 257
   pub countShort : Gives anyone (0x05 ∷ 0x02 ∷ 0x01 ∷ []) [] waits 3
   -- "It chooses `02` when credentials are set, else `00`."
   pub chooses2 : Gives known (offering 0x02 []) (0x05 ∷ 0x02 ∷ []) waits 3
   pub chooses0 : Gives anyone (offering 0x00 []) (0x05 ∷ 0x00 ∷ []) waits 3
   -- "It answers `FF` and fails with 12 if the client did not offer that.", and "Later bytes are unread."
-  pub notOffered2 : Gives known (offering 0x00 (connect 1 [])) (0x05 ∷ 0xFF ∷ []) (fails Unsupported) 3
-  pub notOffered0 : Gives anyone (offering 0x02 (connect 1 [])) (0x05 ∷ 0xFF ∷ []) (fails Unsupported) 3
+  pub notOffered2 : Gives known (offering 0x00 (connect 1 [])) (0x05 ∷ 0xFF ∷ []) (fails 12 0) 3
+  pub notOffered0 : Gives anyone (offering 0x02 (connect 1 [])) (0x05 ∷ 0xFF ∷ []) (fails 12 0) 3
   -- "Credential lengths 0 are taken."
   pub loginBlank : Gives blank (offering 0x02 (0x01 ∷ 0x00 ∷ 0x00 ∷ [])) (0x05 ∷ 0x02 ∷ 0x01 ∷ 0x00 ∷ []) waits 6
   pub loginRight : Gives known (offering 0x02 (login [])) (0x05 ∷ 0x02 ∷ 0x01 ∷ 0x00 ∷ []) waits 9
   -- "20 for wrong credentials, once they are whole, sending `01 01`": a password of the same length; a user, of which the password is not there yet
-  pub loginWrong : Gives known (offering 0x02 (0x01 ∷ 0x01 ∷ 0x75 ∷ 0x02 ∷ 0x70 ∷ 0x78 ∷ connect 1 [])) (0x05 ∷ 0x02 ∷ 0x01 ∷ 0x01 ∷ []) (fails WrongCredentials) 9
+  pub loginWrong : Gives known (offering 0x02 (0x01 ∷ 0x01 ∷ 0x75 ∷ 0x02 ∷ 0x70 ∷ 0x78 ∷ connect 1 [])) (0x05 ∷ 0x02 ∷ 0x01 ∷ 0x01 ∷ []) (fails 20 0) 9
   pub loginShort : Gives known (offering 0x02 (0x01 ∷ 0x01 ∷ 0x76 ∷ 0x02 ∷ 0x70 ∷ [])) (0x05 ∷ 0x02 ∷ []) waits 8
   -- "19, at the byte that shows it, for a version, reserved byte, count or length other than these, sending nothing more"
-  pub loginVersion : Gives known (offering 0x02 (0x05 ∷ [])) (0x05 ∷ 0x02 ∷ []) (fails Malformed) 4
-  pub connectVersion : Gives anyone (offering 0x00 (0x01 ∷ [])) (0x05 ∷ 0x00 ∷ []) (fails Malformed) 4
-  pub reserved : Gives anyone (offering 0x00 (0x05 ∷ 0x01 ∷ 0x01 ∷ 0x07 ∷ [])) (0x05 ∷ 0x00 ∷ []) (fails Malformed) 6
+  pub loginVersion : Gives known (offering 0x02 (0x05 ∷ [])) (0x05 ∷ 0x02 ∷ []) (fails 19 0) 4
+  pub connectVersion : Gives anyone (offering 0x00 (0x01 ∷ [])) (0x05 ∷ 0x00 ∷ []) (fails 19 0) 4
+  pub reserved : Gives anyone (offering 0x00 (0x05 ∷ 0x01 ∷ 0x01 ∷ 0x07 ∷ [])) (0x05 ∷ 0x00 ∷ []) (fails 19 0) 6
   -- "An unknown address type is answered with status 8 at its byte", whatever the command is; "replies of its own carry IPv4 zeros and port 0"
-  pub unknownType : Gives anyone (offering 0x00 (0x05 ∷ 0x02 ∷ 0x00 ∷ 0x05 ∷ [])) (0x05 ∷ 0x00 ∷ 0x05 ∷ 0x08 ∷ 0x00 ∷ 0x01 ∷ replicate 6 0x00) (fails (Command 8)) 7
+  pub unknownType : Gives anyone (offering 0x00 (0x05 ∷ 0x02 ∷ 0x00 ∷ 0x05 ∷ [])) (0x05 ∷ 0x00 ∷ 0x05 ∷ 0x08 ∷ 0x00 ∷ 0x01 ∷ replicate 6 0x00) (fails 15 8) 7
   -- "else a whole request with a command other than 1 gets 7 (v5) or 91 (v4). Both fail with 15 and that status"
-  pub command5 : Gives anyone (offering 0x00 (connect 2 (0x05 ∷ []))) (0x05 ∷ 0x00 ∷ 0x05 ∷ 0x07 ∷ 0x00 ∷ 0x01 ∷ replicate 6 0x00) (fails (Command 7)) 13
+  pub command5 : Gives anyone (offering 0x00 (connect 2 (0x05 ∷ []))) (0x05 ∷ 0x00 ∷ 0x05 ∷ 0x07 ∷ 0x00 ∷ 0x01 ∷ replicate 6 0x00) (fails 15 7) 13
   pub command5Short : Gives anyone (offering 0x00 (0x05 ∷ 0x02 ∷ 0x00 ∷ 0x01 ∷ 1 ∷ 2 ∷ 3 ∷ 4 ∷ 0x00 ∷ [])) (0x05 ∷ 0x00 ∷ []) waits 12
-  pub command4 : Gives anyone (request 2 (0x75 ∷ 0x00 ∷ 0x05 ∷ [])) (0x00 ∷ 91 ∷ replicate 6 0x00) (fails (Command 91)) 10
+  pub command4 : Gives anyone (request 2 (0x75 ∷ 0x00 ∷ 0x05 ∷ [])) (0x00 ∷ 91 ∷ replicate 6 0x00) (fails 15 91) 10
   -- "or, ahead of 15, for a whole v4 request when credentials are set, sending a reply with 91"
-  pub secret4 : Gives known (request 2 (0x00 ∷ [])) (0x00 ∷ 91 ∷ replicate 6 0x00) (fails WrongCredentials) 9
+  pub secret4 : Gives known (request 2 (0x00 ∷ [])) (0x00 ∷ 91 ∷ replicate 6 0x00) (fails 20 0) 9
   pub secret4Short : Gives known (request 2 []) [] waits 8
   -- "A v4 user id has at most 255 bytes": the 256th is wrong at its byte
   pub userMost : Gives anyone (request 1 (replicate 255 0x75 ++ (0x00 ∷ []))) [] (asks (asked V4 (endpoint (ipv4 (1 ∷ 2 ∷ 3 ∷ 4 ∷ [])) 80))) 264
-  pub userOver : Gives anyone (request 1 (replicate 257 0x75)) [] (fails Malformed) 264
+  pub userOver : Gives anyone (request 1 (replicate 257 0x75)) [] (fails 19 0) 264
   -- "a v5 name 1 to 255": a length of 0 is wrong at its byte
-  pub nameNone : Gives anyone (offering 0x00 (0x05 ∷ 0x01 ∷ 0x00 ∷ 0x03 ∷ 0x00 ∷ 0x00 ∷ 0x50 ∷ [])) (0x05 ∷ 0x00 ∷ []) (fails Malformed) 8
+  pub nameNone : Gives anyone (offering 0x00 (0x05 ∷ 0x01 ∷ 0x00 ∷ 0x03 ∷ 0x00 ∷ 0x00 ∷ 0x50 ∷ [])) (0x05 ∷ 0x00 ∷ []) (fails 19 0) 8
   pub name5 : Gives anyone (offering 0x00 (0x05 ∷ 0x01 ∷ 0x00 ∷ 0x03 ∷ 0x01 ∷ 0x61 ∷ 0x01 ∷ 0xBB ∷ [])) (0x05 ∷ 0x00 ∷ []) (asks (asked V5 (endpoint (domain (0x61 ∷ [])) 443))) 11
   -- "a 4a name 1 to 1,014": one of no byte is wrong at its 00, and the 1,015th byte is
-  pub nameNone4 : Gives anyone (announced (0x00 ∷ [])) [] (fails Malformed) 10
+  pub nameNone4 : Gives anyone (announced (0x00 ∷ [])) [] (fails 19 0) 10
   pub name4 : Gives anyone (announced (0x61 ∷ 0x00 ∷ 0x05 ∷ [])) [] (asks (asked V4 (endpoint (domain (0x61 ∷ [])) 80))) 11
   pub nameMost4 : Gives anyone (announced (replicate 1014 0x61 ++ (0x00 ∷ []))) [] (asks (asked V4 (endpoint (domain (replicate 1014 0x61)) 80))) 1024
-  pub nameOver4 : Gives anyone (announced (replicate 1016 0x61)) [] (fails Malformed) 1024
+  pub nameOver4 : Gives anyone (announced (replicate 1016 0x61)) [] (fails 19 0) 1024
   -- "It hands out the destination; then only the caller's answer is in turn", and "Later bytes are unread."
   pub hands4 : Gives anyone (offering 0x00 (connect 1 (0x05 ∷ []))) (0x05 ∷ 0x00 ∷ []) (asks (asked V5 (endpoint (ipv4 (1 ∷ 2 ∷ 3 ∷ 4 ∷ [])) 80))) 13
   pub hands6 : Gives known (offering 0x02 (login (0x05 ∷ 0x01 ∷ 0x00 ∷ 0x04 ∷ (replicate 15 0x00 ++ (0x01 ∷ 0x00 ∷ 0x50 ∷ []))))) (0x05 ∷ 0x02 ∷ 0x01 ∷ 0x00 ∷ []) (asks (asked V5 (endpoint (ipv6 (replicate 15 0x00 ++ (0x01 ∷ []))) 80))) 31
@@ -119,6 +139,6 @@ pub record Worked : Type 0 where
   pub strange5 : reply5 9 (endpoint (ipv6 (replicate 16 0x01)) 80) ≡ 0x05 ∷ 0x01 ∷ 0x00 ∷ 0x04 ∷ (replicate 16 0x01 ++ (0x00 ∷ 0x50 ∷ []))
   pub strange4 : reply4 89 (endpoint (ipv6 (replicate 16 0x01)) 80) ≡ 0x00 ∷ 91 ∷ 0x00 ∷ 0x50 ∷ replicate 4 0x00
   -- "The end is then open, or failed with 15 and the status sent."
-  pub opens : (stageAfter V5 0 ≡ Open V5) × (stageAfter V4 90 ≡ Open V4)
-  pub refuses : (stageAfter V5 8 ≡ Failed (Command 8)) × (stageAfter V4 93 ≡ Failed (Command 93))
-  pub refusesStrange : (stageAfter V5 9 ≡ Failed (Command 1)) × (stageAfter V4 0 ≡ Failed (Command 91))
+  pub opens : (stageAfter V5 0 ≡ stage.Open V5) × (stageAfter V4 90 ≡ stage.Open V4)
+  pub refuses : (failure (stageAfter V5 8) ≡ (15, 8)) × (failure (stageAfter V4 93) ≡ (15, 93))
+  pub refusesStrange : (failure (stageAfter V5 9) ≡ (15, 1)) × (failure (stageAfter V4 0) ≡ (15, 91))

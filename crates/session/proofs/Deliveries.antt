@@ -42,7 +42,7 @@ use Rattle.talk.specs.Talk.{feed, onward, isOver}
 
 -- ---- which way a delivery goes
 
-is-over : (stage : Stage) (b : Bound) (h : List ℕ) → rank stage ≡ 0 → isOver (viewAt stage b h) ≡ true
+pub is-over : (stage : Stage) (b : Bound) (h : List ℕ) → rank stage ≡ 0 → isOver (viewAt stage b h) ≡ true
 is-over (Awaiting e) b h z = absurd (awaits e z)
 is-over Open b h z = refl
 is-over (Failed x) b h z = refl

@@ -26,7 +26,7 @@ use Rattle.session.specs.declared.Ended.{Ended}
 use Rattle.session.specs.Session.{sideOf, view, packed, attempted, outcome, firstRoomAt, firstAt, roomAt}
 use Rattle.talk.specs.Talk.{failed, ended, onward, heldBy, isOver, reached}
 use Rattle.talk.specs.Attempts.{attemptsBy}
-use Rattle.talk.specs.Tunnel.{Answer, Receiver}
+use Rattle.talk.specs.Tunnel.{Answer}
 use Rattle.sending.specs.Stages.{SideFed}
 
 abbrev pub Call : Type 0
@@ -140,10 +140,6 @@ deliver s piece out =
     cond (isOver (view s)) (refusal Settled s out)
     (cond (not (s .started)) (refusal OutOfOrder s out)
     (cond (leb (roomAt (s .stage)) (length out)) (takes s piece out) (refusal ShortOutput s out)))
-
--- sessions take deliveries, of which those count that lend so much output
-abbrev pub receiver : ℕ → Receiver Session code.Answer
-receiver room = record { room = room; deliver = deliver }
 
 -- ---- End of stream
 

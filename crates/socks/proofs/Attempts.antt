@@ -22,7 +22,8 @@ use Rattle.sending.specs.Stages.{SideSession, holdsOf}
 use Rattle.sending.proofs.Held.{begun-held}
 use Rattle.session.specs.declared.Session.{Session}
 use Rattle.session.specs.Session.{view, heldBytes, roomAt}
-use Rattle.session.specs.Calls.{Call, refusal, takes, deliver, receiver, start, preparedBy, prepare5, prepare4}
+use Rattle.session.specs.Calls.{Call, refusal, takes, deliver, start, preparedBy, prepare5, prepare4}
+use Rattle.socks.specs.Demand3.{receiver}
 use Rattle.protocol.specs.Bytes.{BytePieces}
 use Rattle.socks.specs.Attempts.{oneIf, isWaiting, isAccepted, hasByte, lendsFor, counts, attemptsAt, attemptsOf, acceptedIn, Effort, Tried}
 use Rattle.socks.proofs.Refusals.{clash}
@@ -217,7 +218,7 @@ module _ (o : Opening) where
       let k : 0 + attemptsOf o [] ds ≡ attemptsOf o [] ds = omega arith in
       record {
         attempts-are = rw k at e;
-        attempts-few = omega (arith, e, few-on ds s [] t);
+        attempts-few = omega (arith, few-on ds s [] t);
         held-few = rw (stands-all ds s [] t .exact) (begun-held o (joined (receiver (deliveryRoom o)) ds) (joined-bytes (deliveryRoom o) ds y));
       }
 

@@ -1,12 +1,11 @@
 -- F-7: preparing and then starting is the opening in one call, but that 1 comes last.
 use Prim.Native.Nat.{ℕ, _≤_, _<_}
 use mathlib.Core.Path.{_≡_, refl, ap, sym, _∙_}
-use mathlib.Core.Logic.{_↔_}
 use mathlib.Core.Bool.{Bool, true, false, cond, not}
 use mathlib.Core.List.{List, [], _∷_, _++_, append-nil}
 use lib.ListN.{length}
 use lib.Dec.{leb, ltb, lit<}
-use borrow.Author.Tests.{le-leb, lt-leb, le-ltb, leb-true, leb-false, not-true}
+use borrow.Author.Tests.{le-leb, le-ltb, leb-true}
 use Rattle.protocol.specs.declared.AuthMethod.the-variants.{NoAuth, UserPass}
 use Rattle.protocol.specs.declared.Answer.{Answer}
 use Rattle.protocol.specs.declared.Answer.the-variants.{Accepted, Refused}
@@ -17,6 +16,8 @@ use Rattle.protocol.specs.Requests.{negotiationReq, authenticationReq, proxyReq
 use Rattle.protocol.specs.Replies.{decide}
 use Rattle.protocol.specs.Opening.{V5, V4, Condition, _↣_, conditions5, conditions4, Answers, refuse, check5, check4, Opening, v5, v4, noAuth, userPass, opening5, opening4, firstReply, startRoom, Limits, Sixteen}
 use Rattle.protocol.specs.Client as client
+use Rattle.protocol.specs.Machine.{Machine, machine}
+use Rattle.protocol.proofs.Client.{machine-feed}
 use Rattle.protocol.proofs.Openings.{all-passed, checked, less-just, check5-just, check4-just}
 use Rattle.protocol.proofs.Limits.{limits5, limits4, number-is}
 use Rattle.protocol.proofs.Claims.{answers-behind, answers-before}
@@ -26,6 +27,7 @@ use Rattle.session.specs.Calls.{Call, refusal, keptBy, preparedFor, emptySessio
 use Rattle.openings.proofs.KeptBy.{kept-parts}
 use Rattle.socks.specs.InTwo.{begins, openBy, open5, open4, inTwo, InTwo}
 use Rattle.socks.proofs.Refusals.{clash, same-error}
+use Rattle.socks.proofs.Turns.{not-long}
 use Rattle.talk.specs.Talk.{feed, waiting}
 use Rattle.talk.proofs.Feed.{same-fed}
 
@@ -34,7 +36,7 @@ use Rattle.talk.proofs.Feed.{same-fed}
 abbrev fedBy : Opening → SideFed
 fedBy o = record { session = waiting (firstReply o) []; sent = firstOf (firstReply o) (keptBy o); place = 0 }
 
-begun-fed : (o : Opening) → Limits o → feed (client.side o) (client.begun o) [] ≡ fedBy o
+pub begun-fed : (o : Opening) → Limits o → feed (client.side o) (client.begun o) [] ≡ fedBy o
 unfolding feed decide
 begun-fed (v5 noAuth d port false) l = let k = kept-parts (v5 noAuth d port false) l in same-fed _ _ refl (append-nil (negotiationReq NoAuth) ∙ sym (k .0)) refl
 begun-fed (v5 noAuth d port true) l =
@@ -47,6 +49,9 @@ begun-fed (v5 (userPass u p) d port true) l =
     (ap (λ (x : List ℕ). negotiationReq UserPass ++ (authenticationReq u p ++ x)) (append-nil (proxyReq d port)) ∙ (λ i. sym (k .0) i ++ (sym (k .1) i ++ sym (k .2) i)))
     refl
 begun-fed (v4 d port) l = same-fed _ _ refl (append-nil (request d port) ∙ sym (kept-parts (v4 d port) l)) refl
+
+first-sent : (o : Opening) → Limits o → firstOf (firstReply o) (keptBy o) ≡ machine o [] .sent
+first-sent o l = sym (ap (λ (m : Machine). m .sent) (machine-feed o []) ∙ ap (λ (f : SideFed). f .sent) (begun-fed o l))
 
 -- ---- both accepted
 
@@ -71,11 +76,8 @@ module _ (o : Opening) (out : List ℕ) (p : start (preparedFor o) out .answer �
       go true q = refl
       go false q = absurd (clash (sym q))
 
-  pub start-begins : Limits o → start (preparedFor o) out ≡ begins o (feed (client.side o) (client.begun o) []) out
-  start-begins l = start-prepared o out ∙ rw (le-leb (startRoom o) (length out) long-enough) (ap (λ (f : SideFed). begins o f out) (sym (begun-fed o l)))
-
-not-long : (m n : ℕ) → not (leb m n) ≡ true ↔ (n < m)
-not-long m n = (λ q. leb-false m n (not-true (leb m n) q), λ h. rw (lt-leb m n h))
+  pub start-begins : Limits o → start (preparedFor o) out ≡ begins o out
+  start-begins l = start-prepared o out ∙ rw (le-leb (startRoom o) (length out) long-enough) (ap (λ (first : List ℕ). starts (preparedFor o) first out) (first-sent o l))
 
 module _ (o : Opening) where
   abbrev old : Answer → List ℕ → Call

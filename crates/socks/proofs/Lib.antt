@@ -1,5 +1,6 @@
 pub mod Claims
 pub mod Refusals
+pub mod Turns
 pub mod InTwo
 pub mod Tunnels
 pub mod Openings

@@ -27,8 +27,8 @@ use Rattle.sending.specs.declared.Stage.the-variants.{Awaiting, Open as OpenSta
 use Rattle.sending.specs.Stages.{SideSession, viewAt, holdsOf}
 use Rattle.sending.specs.Parts.{requestsOf}
 use Rattle.session.specs.Session.{heldBytes, view, packed, outcome, bound, roomAt}
-use Rattle.session.specs.Calls.{refusal, takes, deliver, receiver}
-use Rattle.socks.specs.Demand3.{Alike, tunnelOf, joinedOf, Demand3}
+use Rattle.session.specs.Calls.{refusal, takes, deliver}
+use Rattle.socks.specs.Demand3.{receiver, Alike, tunnelOf, joinedOf, Demand3}
 use Rattle.talk.specs.Talk as talk
 use Rattle.talk.specs.Tunnel as side
 use Rattle.talk.specs.Tunnel.{Delivery, lends, answerTo, joined, tunnel, given, refusing, accepting}

@@ -13,9 +13,9 @@ use Rattle.protocol.specs.Opening.{Opening, deliveryRoom}
 use Rattle.protocol.specs.Machine.{machine, decidedOn}
 use Rattle.session.specs.declared.Session.{Session}
 use Rattle.session.specs.declared.Prepared.{Prepared}
-use Rattle.session.specs.Calls.{start, receiver}
+use Rattle.session.specs.Calls.{start, deliver}
 use Rattle.protocol.specs.Bytes.{BytePieces}
-use Rattle.talk.specs.Tunnel.{Delivery, lends, answerTo, after}
+use Rattle.talk.specs.Tunnel.{Receiver, Delivery, lends, answerTo, after}
 
 abbrev pub oneIf : Bool → ℕ
 oneIf b = cond b 1 0
@@ -32,8 +32,12 @@ isAccepted (Refused e) = false
 abbrev pub hasByte : Delivery → Bool
 hasByte d = ltb 0 (length (d .piece))
 
+-- a session takes pieces by the exported call; those deliveries count that lend what its opening's version asks
+abbrev pub receiverOf : Opening → Receiver Session Answer
+receiverOf o = record { room = deliveryRoom o; deliver = deliver }
+
 abbrev pub lendsFor : Opening → Delivery → Bool
-lendsFor o d = lends (receiver (deliveryRoom o)) d
+lendsFor o d = lends (receiverOf o) d
 
 -- a delivery behind joined bytes is accepted, and its piece is not empty: it lends what is asked, and the machine still waits
 abbrev pub counts : Opening → List ℕ → Delivery → Bool
@@ -52,17 +56,17 @@ attemptsOf o before (d ∷ ds) = attemptsAt o before d + attemptsOf o (before ++
 unfoldable pub acceptedIn : Opening → Session → List Delivery → ℕ
 acceptedIn o s [] = 0
 acceptedIn o s (d ∷ ds) =
-    let a = answerTo (receiver (deliveryRoom o)) s d in
+    let a = answerTo (receiverOf o) s d in
     oneIf (isAccepted (a .answer) && hasByte d) + acceptedIn o (a .session) ds
 
 -- of an opening and the session that its start returned
 pub record Effort (o : Opening) (s : Session) (ds : List Delivery) : Type 0 where
   -- the session carries that number; it wraps past what any list of deliveries reaches
-  pub attempts-are : after (receiver (deliveryRoom o)) s ds .attempts ≡ attemptsOf o [] ds % 2 ^ 64
-  -- it is at most the accepted nonempty deliveries plus three
-  pub attempts-few : after (receiver (deliveryRoom o)) s ds .attempts ≤ acceptedIn o s ds + 3
+  pub attempts-are : after (receiverOf o) s ds .attempts ≡ attemptsOf o [] ds % 2 ^ 64
+  -- and that number is at most the accepted nonempty deliveries plus three
+  pub attempts-few : attemptsOf o [] ds ≤ acceptedIn o s ds + 3
   -- and the held bytes are never more than 261
-  pub held-few : after (receiver (deliveryRoom o)) s ds .held ≤ 261
+  pub held-few : after (receiverOf o) s ds .held ≤ 261
 
 -- for what preparing returned, any output with which it is started, and every list of deliveries
 abbrev pub Tried : Prepared → Opening → Type 0

@@ -4,6 +4,7 @@ use mathlib.Core.Path.{_≡_}
 use mathlib.Core.Logic.{_↔_}
 use mathlib.Core.List.{List}
 use lib.ListN.{take, drop}
+use Rattle.protocol.specs.declared.Answer.{Answer}
 use Rattle.protocol.specs.declared.Answer.the-variants.{Accepted}
 use Rattle.protocol.specs.declared.Outcome.the-variants.{Open}
 use Rattle.protocol.specs.Bytes.{BytePieces}
@@ -14,8 +15,8 @@ use Rattle.protocol.specs.Grammar.{Replied, JustOne}
 use Rattle.session.specs.declared.Session.{Session}
 use Rattle.session.specs.Session.{outcome, bound}
 use Rattle.session.specs.declared.Prepared.{Prepared}
-use Rattle.session.specs.Calls.{start, receiver}
-use Rattle.talk.specs.Tunnel.{Delivery, joined, Tunnel, tunnel}
+use Rattle.session.specs.Calls.{start, deliver}
+use Rattle.talk.specs.Tunnel.{Receiver, Delivery, joined, Tunnel, tunnel}
 
 -- what two tunnels have alike: outcome with status, bound address, sent bytes, total count and rests. Not the attempts (F-11), in which lists with equal joined
 -- bytes may differ
@@ -25,6 +26,10 @@ pub record Alike (t u : Tunnel Session) : Type 0 where
   pub sent : t .sent ≡ u .sent
   pub count : t .count ≡ u .count
   pub rest : t .rest ≡ u .rest
+
+-- a session takes pieces by the exported call; those deliveries count that lend so much output
+abbrev pub receiver : ℕ → Receiver Session Answer
+receiver room = record { room = room; deliver = deliver }
 
 -- the tunnel of an opening, whose deliveries count if they lend what its version asks; and their joined bytes
 abbrev pub tunnelOf : Opening → Session → List ℕ → List Delivery → Tunnel Session

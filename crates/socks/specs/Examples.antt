@@ -10,8 +10,9 @@ use Rattle.protocol.specs.Opening.{V5}
 use Rattle.protocol.specs.Examples.{Case, host, over5, over4, Shown, fails, shown, computed, open5, signed5, open4, address, success}
 use Rattle.session.specs.Session.{outcome}
 use Rattle.session.specs.declared.Session.{Session}
-use Rattle.session.specs.Calls.{Call, prepare5, prepare4, start, deliver, end, receiver}
+use Rattle.session.specs.Calls.{Call, prepare5, prepare4, start, deliver, end}
 use Rattle.socks.specs.InTwo.{inTwo}
+use Rattle.socks.specs.Demand3.{receiver}
 use Rattle.talk.specs.Tunnel.{Delivery, after, tunnel}
 
 -- a piece with an output of so many bytes

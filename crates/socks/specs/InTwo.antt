@@ -12,14 +12,11 @@ use Rattle.protocol.specs.declared.SocksError.the-variants.{ShortOutput}
 use Rattle.protocol.specs.Numbers.{answerNumber}
 use Rattle.protocol.specs.Opening.{V5, V4, Condition, _↣_, Answers, refuse, check5, check4, Opening, opening5, opening4, firstReply}
 use Rattle.protocol.specs.Bound.{unbound, boundOf}
-use Rattle.protocol.specs.Client.{side, begun}
+use Rattle.protocol.specs.Machine.{machine}
 use Rattle.sending.specs.declared.Stage.the-variants.{Awaiting}
-use Rattle.sending.specs.Stages.{SideFed}
 use Rattle.session.specs.declared.Session.{Session}
 use Rattle.session.specs.declared.Prepared.{Prepared}
-use Rattle.session.specs.Session.{packed}
 use Rattle.session.specs.Calls.{Call, refusal, keptBy, emptySession, start}
-use Rattle.talk.specs.Talk.{feed}
 
 -- ---- the opening in one call
 
@@ -27,19 +24,14 @@ use Rattle.talk.specs.Talk.{feed}
 abbrev pub startedFor : Opening → Session
 startedFor o = record { stage = Awaiting (firstReply o); started = true; held = 0; hold = replicate 261 0; bound = boundOf unbound; attempts = 0; requests = keptBy o }
 
--- an accepted opening: its talk, fed with no byte; what is sent stands at the output's start
-abbrev pub begins : Opening → SideFed → List ℕ → Call
-begins o f out =
-    record {
-      answer = Accepted;
-      session = packed (startedFor o) (f .session);
-      used = 0;
-      sent = length (f .sent);
-      output = f .sent ++ drop (length (f .sent)) out;
-    }
+-- an accepted opening: what the plain machine sends ahead of any byte stands at the output's start
+abbrev pub begins : Opening → List ℕ → Call
+begins o out =
+    let first = machine o [] .sent in
+    record { answer = Accepted; session = startedFor o; used = 0; sent = length first; output = first ++ drop (length first) out }
 
 abbrev pub openBy : Answer → Opening → List ℕ → Call
-openBy Accepted o out = begins o (feed (side o) (begun o) []) out
+openBy Accepted o out = begins o out
 openBy (Refused e) o out = refusal e (emptySession e) out
 
 -- its checks have 1 ahead of those of preparing

@@ -51,7 +51,7 @@ size5 l = go (l .optimistic)
     go true = omega arith
     go false = omega arith
 
-first-fits : (l : Lengths) (e : Reply) → firstSize l e ≤ firstRoom e
+pub first-fits : (l : Lengths) (e : Reply) → firstSize l e ≤ firstRoom e
 first-fits l (NegotiationRes m) = size5 l
 first-fits l AuthenticationRes = size5 l
 first-fits l ProxyRes = size5 l

@@ -5,3 +5,4 @@ pub mod Pieces
 pub mod Follow
 pub mod Attempts
 pub mod Graft
+pub mod Sends

@@ -1,5 +1,6 @@
 -- Document 01, "Tunnel": deliveries, one after the other, to whatever takes them.
 use Prim.Native.Nat.{ℕ, _+_, _-_}
+use mathlib.Core.Path.{_≡_}
 use mathlib.Core.Bool.{Bool, cond}
 use mathlib.Core.List.{List, [], _∷_, _++_}
 use lib.ListN.{length, take, drop}
@@ -22,6 +23,11 @@ pub record Receiver (X A : Type 0) : Type 0 where
 pub record Delivery : Type 0 where
   pub piece : List ℕ
   pub output : List ℕ
+
+-- the bytes behind those that a call says it sent are as they were lent, and the output is as long as it was
+pub record Behind {X A : Type 0} (c : Answer X A) (out : List ℕ) : Type 0 where
+  pub bytes : drop (c .sent) (c .output) ≡ drop (c .sent) out
+  pub size : length (c .output) ≡ length out
 
 -- the rest call: what follows so many bytes of a piece
 abbrev pub rest : List ℕ → ℕ → List ℕ
