@@ -2,7 +2,7 @@
 // 1,024 bytes, which is as much as any asks, and the buffer of a text 261, which is as long as a text gets.
 ghost use mathlib.Core.Path.{_≡_};
 ghost use lib.ListN.{length};
-ghost use Rattle.serving_replies.specs.Replies.{endpointOf};
+ghost use Rattle.serving.specs.End.{endpointOf};
 ghost use Rattle.session.specs.Session.{writeBound};
 ghost use Rattle.session.specs.Calls.{prepare5, prepare4, start, deliver, end};
 ghost use Rattle.proxy_calls.specs.Server.{destination};

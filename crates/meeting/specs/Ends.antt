@@ -13,7 +13,7 @@ use Rattle.protocol.specs.Requests.{Destination4, address, name, Announces}
 use Rattle.protocol.specs.Opening.{Opening, v5, v4, noAuth, userPass, requests}
 use Rattle.protocol.specs.Machine as client
 use Rattle.serving.specs.Words.{Unbroken}
-use Rattle.serving.specs.End.{Setup, End, Standing, waits, asks, fails, asked, machine, used, replyTo, success, dstIp}
+use Rattle.serving.specs.End.{Setup, End, Standing, waits, asks, fails, asked, methodReply, loginReply, machine, used, replyTo, success, dstIp}
 
 -- ---- the opening and the end
 
@@ -47,15 +47,7 @@ SameCredentials (v5 noAuth d port o) c = c .authenticates ≡ false
 SameCredentials (v5 (userPass u p) d port o) c = (c .authenticates ≡ true) × ((c .user ≡ u) × (c .password ≡ p))
 SameCredentials (v4 d port) c = c .authenticates ≡ false
 
--- the bound address that the caller gives, and what the client sees of it: over v4 an IPv6 one as 0.0.0.0 with its port
-abbrev pub Given : Endpoint → Type 0
-Given x = BoundSized (x .address)
-  where
-    BoundSized : Destination → Type 0
-    BoundSized (ipv4 bs) = length bs ≡ 4
-    BoundSized (ipv6 bs) = length bs ≡ 16
-    BoundSized (domain s) = ⊥
-
+-- what the client sees of the bound address that the caller gives: over v4 an IPv6 one as 0.0.0.0 with its port
 abbrev pub seenOf : Version → Endpoint → Endpoint
 seenOf V4 x = endpoint (ipv4 (dstIp (x .address))) (x .port)
 seenOf V5 x = x
@@ -70,6 +62,15 @@ answerTo (fails e) x = []
 
 abbrev pub allSent : End → Endpoint → List ℕ
 allSent e x = e .sent ++ answerTo (e .standing) x
+
+-- its own replies to an opening that it grants: the method, and with credentials how they were judged; then the caller's answer of success
+abbrev pub ownReplies : Opening → List ℕ
+ownReplies (v5 noAuth d port o) = methodReply 0x00
+ownReplies (v5 (userPass u p) d port o) = methodReply 0x02 ++ loginReply 0x00
+ownReplies (v4 d port) = []
+
+abbrev pub allReplies : Opening → Endpoint → List ℕ
+allReplies o x = ownReplies o ++ replyTo (versionOf o) (success (versionOf o)) x
 
 -- all requests of an opening, one behind the other
 abbrev pub allRequests : Opening → List ℕ

@@ -1,5 +1,5 @@
 -- F-3's checks: 5 at its set-up; of any end, set up or not, 16 for a call out of turn, then 1 for output under 262, and a refused call touches nothing.
-use Prim.Native.Nat.{ℕ, _<_}
+use Prim.Native.Nat.{ℕ, _≤_, _<_}
 use mathlib.Core.Path.{_≡_}
 use mathlib.Core.Logic.{_⊎_}
 use mathlib.Core.Bool.{Bool, true}
@@ -7,22 +7,53 @@ use mathlib.Core.List.{List, [], _∷_}
 use lib.ListN.{length, take}
 use Rattle.protocol.specs.declared.Answer.the-variants.{Accepted, Refused}
 use Rattle.protocol.specs.declared.SocksError.{SocksError}
-use Rattle.protocol.specs.declared.SocksError.the-variants.{CredentialTooLong, UnexpectedEof}
+use Rattle.protocol.specs.declared.SocksError.the-variants.{CredentialTooLong, UnexpectedEof, Command}
 use Rattle.protocol.specs.declared.Version.{Version}
-use Rattle.protocol.specs.Numbers.{answerNumber}
-use Rattle.protocol.specs.Bound.{Endpoint}
+use Rattle.protocol.specs.Numbers.{number, answerNumber}
+use Rattle.protocol.specs.AddressReading.{Destination, ipv4, ipv6, domain}
+use Rattle.protocol.specs.Bound.{Endpoint, unbound}
 use Rattle.protocol.specs.Opening.{_↣_, Answers}
-use Rattle.serving.specs.End.{replyTo, stageAfter}
-use Rattle.serving_stages.specs.declared.Outcome.the-variants.{Waiting, Asked, Failed}
+use Rattle.serving.specs.declared.Stage.the-variants as stage
+use Rattle.serving.specs.End.{replyTo, statusTo, success}
+use Rattle.destinations.specs.declared.Target.{Target}
+use Rattle.serving_stages.specs.declared.Outcome.{Outcome}
+use Rattle.serving_stages.specs.declared.Outcome.the-variants.{Waiting, Asked, Open, Failed}
 use Rattle.proxy_calls.specs.declared.Server.{Server}
-use Rattle.proxy_calls.specs.Server.{outcome, atStage}
+use Rattle.proxy_calls.specs.Server.{outcome, destination}
 use Rattle.proxy_calls.specs.Calls.{Call, refusal, setUp, deliver, answer, end}
+use Rattle.proxy.specs.Served.{handedOut}
+use Rattle.talk.specs.Tunnel.{Behind}
+
+-- an outcome's number: 0 unless it has failed
+abbrev pub failure : Outcome → ℕ
+failure Waiting = 0
+failure Asked = 0
+failure Open = 0
+failure (Failed e) = number e
+
+-- an address as the caller gives it: IPv4 or IPv6, of its size
+abbrev pub Given : Endpoint → Type 0
+Given x = GivenSize (x .address)
+  where
+    GivenSize : Destination → Type 0
+    GivenSize (ipv4 bs) = length bs ≡ 4
+    GivenSize (ipv6 bs) = length bs ≡ 16
+    GivenSize (domain s) = ⊥
+
+-- what is told of an end
+pub record Tells (s : Server) (how : Outcome) (where-to : Target) : Type 0 where
+  pub outcomes : outcome s ≡ how
+  pub destinations : destination s ≡ where-to
+
+-- what is handed out where no destination is known: IPv4 zeros and port 0
+abbrev pub nowhere : Target
+nowhere = handedOut unbound
 
 -- set-up, with any arguments: 5 as in an opening, and no other number; a refused one comes back failed with it, an accepted one waits
 pub record SettingUp (authenticates : Bool) (user password : List ℕ) : Type 0 where
   pub number : Answers (answerNumber (setUp authenticates user password .answer)) ((((authenticates ≡ true) × ((255 < length user) ⊎ (255 < length password))) ↣ 5) ∷ [])
-  pub refused : (e : SocksError) → setUp authenticates user password .answer ≡ Refused e → outcome (setUp authenticates user password .server) ≡ Failed CredentialTooLong
-  pub accepted : setUp authenticates user password .answer ≡ Accepted → outcome (setUp authenticates user password .server) ≡ Waiting
+  pub refused : (e : SocksError) → setUp authenticates user password .answer ≡ Refused e → Tells (setUp authenticates user password .server) (Failed CredentialTooLong) nowhere
+  pub accepted : setUp authenticates user password .answer ≡ Accepted → Tells (setUp authenticates user password .server) Waiting nowhere
 
 -- a refused call answers with its number, and uses, sends and changes nothing
 abbrev pub Untouched : Call → Server → List ℕ → Type 0
@@ -38,12 +69,22 @@ pub record InTurn (s : Server) : Type 0 where
   pub answer-untouched : (status : ℕ) (x : Endpoint) (out : List ℕ) → Untouched (answer s status x out) s out
   pub end-untouched : Untouched (end s) s []
   -- an end of stream in turn: 9
-  pub end-fails : outcome s ≡ Waiting → outcome (end s .session) ≡ Failed UnexpectedEof
+  pub end-fails : end s .answer ≡ Accepted → Tells (end s .session) (Failed UnexpectedEof) nowhere
+  pub end-nine : end s .answer ≡ Accepted → failure (outcome (end s .session)) ≡ 9
   -- an empty piece in turn changes nothing
   pub nothing : (out : List ℕ) → deliver s [] out .answer ≡ Accepted → deliver s [] out ≡ record { answer = Accepted; session = s; used = 0; sent = 0; output = out }
+  -- the bytes behind what is sent are as they were
+  pub deliver-behind : (piece out : List ℕ) → Behind (deliver s piece out) out
+  pub answer-behind : (status : ℕ) (x : Endpoint) (out : List ℕ) → Given x → Behind (answer s status x out) out
 
--- the caller's answer to an end that was asked in a version, lent enough: the reply is sent, and the end is then open, or failed with 15 and the status sent; nothing
--- else of it changes
+-- the caller's answer to an end that was asked in a version, lent enough: the reply is sent, and the end is then open with its destination, or failed with 15 and the
+-- status sent, and has none
 pub record Answering (s : Server) (v : Version) (status : ℕ) (x : Endpoint) (out : List ℕ) : Type 0 where
+  pub accepts : answer s status x out .answer ≡ Accepted
   pub sends : take (answer s status x out .sent) (answer s status x out .output) ≡ replyTo v status x
-  pub leaves : answer s status x out .session ≡ atStage (stageAfter v status) s
+  pub opens : statusTo v status ≡ success v → Tells (answer s status x out .session) Open (destination s)
+  pub fails : (statusTo v status ≡ success v → ⊥) → Tells (answer s status x out .session) (Failed (Command (statusTo v status))) nowhere
+  pub fails-15 : (statusTo v status ≡ success v → ⊥) → failure (outcome (answer s status x out .session)) ≡ 15
+
+abbrev pub AllAnswering : Type 0
+AllAnswering = (s : Server) (v : Version) → s .stage ≡ stage.Asked v → (status : ℕ) (x : Endpoint) (out : List ℕ) → 262 ≤ length out → Answering s v status x out

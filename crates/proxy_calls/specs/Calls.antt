@@ -22,7 +22,7 @@ use Rattle.proxy_calls.specs.declared.Answered.{Answered}
 use Rattle.proxy_calls.specs.declared.Ended.{Ended}
 use Rattle.proxy_calls.specs.Server.{credentialOf, sideOf, view, packed, atStage, fresh}
 use Rattle.talk.specs.Talk.{Fed, failed, ended, onward, heldBy, isOver, reached}
-use Rattle.talk.specs.Tunnel.{Answer, Receiver}
+use Rattle.talk.specs.Tunnel.{Answer}
 
 abbrev pub Call : Type 0
 Call = Answer Server code.Answer
@@ -88,10 +88,6 @@ takes s (b ∷ bs) out = moves s (onward (sideOf s) (view s) (b ∷ bs)) out
 unfoldable pub deliver : Server → List ℕ → List ℕ → Call
 deliver s piece out =
     cond (isOver (view s)) (refusal Settled s out) (cond (leb 262 (length out)) (takes s piece out) (refusal ShortOutput s out))
-
--- ends take deliveries, of which those count that lend 262 bytes
-abbrev pub receiver : Receiver Server code.Answer
-receiver = record { room = 262; deliver = deliver }
 
 -- ---- the caller's answer
 

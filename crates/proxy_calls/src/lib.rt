@@ -4,7 +4,7 @@ ghost use Prim.Native.Nat.{_≤_};
 ghost use lib.ListN.{length};
 ghost use Rattle.protocol.specs.Bound.{unbound};
 ghost use Rattle.destinations.specs.Last.{targetAs};
-ghost use Rattle.serving_replies.specs.Replies.{endpointOf};
+ghost use Rattle.serving.specs.End.{endpointOf};
 ghost use Rattle.proxy_calls.specs.Server.{credentialOf, fresh, outcome, destination};
 ghost use Rattle.proxy_calls.specs.Calls.{setUp, deliver, Delivers, answer, Answers, end, endedBy};
 use checks::credentials_too_long;

@@ -7,7 +7,7 @@ use Rattle.protocol.specs.declared.Answer.the-variants.{Accepted}
 use Rattle.protocol.specs.declared.Family.{Family}
 use Rattle.protocol.specs.declared.Record.{Record}
 use Rattle.protocol.specs.declared.SocksError.the-variants.{UnexpectedEof, Settled}
-use Rattle.serving_replies.specs.Replies.{endpointOf}
+use Rattle.serving.specs.End.{endpointOf}
 use Rattle.proxy_calls.specs.declared.Server.{Server}
 use Rattle.proxy_calls.specs.declared.SetUp.{SetUp}
 use Rattle.proxy_calls.specs.declared.Delivered.{Delivered}

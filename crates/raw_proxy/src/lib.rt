@@ -1,6 +1,6 @@
 // The calls that move a proxy's end of numbers and arrays, each the library's on the end that they mean.
 ghost use mathlib.Core.Path.{_≡_};
-ghost use Rattle.serving_replies.specs.Replies.{endpointOf};
+ghost use Rattle.serving.specs.End.{endpointOf};
 ghost use Rattle.proxy_calls.specs.Calls.{setUp, deliver, answer, end};
 ghost use Rattle.raw_numbers.specs.Numbers.{truth};
 ghost use Rattle.raw_server.specs.Raw.{serverOf};

@@ -4,13 +4,15 @@ use mathlib.Core.Bool.{Bool, true, false, cond, _&&_, _||_}
 use mathlib.Core.List.{List, [], _∷_, _++_}
 use lib.ListN.{length, drop, replicate}
 use lib.Dec.{leb, eqb}
+use Rattle.protocol.specs.declared.Record.{Record}
 use Rattle.protocol.specs.declared.SocksError.{SocksError}
 use Rattle.protocol.specs.declared.SocksError.the-variants.{Unsupported, Command, Malformed, WrongCredentials}
 use Rattle.protocol.specs.declared.Version.{Version}
 use Rattle.protocol.specs.declared.Version.the-variants.{V4, V5}
 use Rattle.protocol.specs.Bytes.{byte, two}
 use Rattle.protocol.specs.AddressReading.{Destination, ipv4, ipv6, domain}
-use Rattle.protocol.specs.Bound.{Endpoint}
+use Rattle.protocol.specs.Bound.{Endpoint, endpoint}
+use Rattle.protocol.specs.Opening.{recordFamily}
 use Rattle.serving.specs.declared.Says.{Says}
 use Rattle.serving.specs.declared.Says.the-variants.{Nothing, Method, Login, Reply5, Reply4}
 use Rattle.serving.specs.declared.Stage.{Stage}
@@ -133,7 +135,10 @@ usedBy (fails e) place bs = place
 unfoldable pub used : Setup → List ℕ → ℕ
 used c bs = usedBy (machine c bs .standing) (machine c bs .place) bs
 
--- ---- the caller's answer: a status, and the address and port that are bound
+-- ---- the caller's answer: a status, and the address and port that are bound, given as a record of a lookup and a port
+
+abbrev pub endpointOf : Record → ℕ → Endpoint
+endpointOf r port = endpoint (recordFamily (r .family) (r .address)) port
 
 -- RFC 1928, section 6: 0 to 8; any other goes as 1
 abbrev pub status5 : ℕ → ℕ

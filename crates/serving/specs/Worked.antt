@@ -5,6 +5,7 @@ use mathlib.Core.Bool.{true, false}
 use mathlib.Core.List.{List, [], _∷_, _++_}
 use lib.ListN.{replicate}
 use Rattle.protocol.specs.Numbers.{number, status, numbers}
+use Rattle.protocol.specs.declared.Family.the-variants.{Four, Six}
 use Rattle.protocol.specs.declared.Version.the-variants.{V4, V5}
 use Rattle.protocol.specs.AddressReading.{ipv4, ipv6, domain}
 use Rattle.protocol.specs.Bound.{endpoint}
@@ -12,7 +13,7 @@ use Rattle.serving.specs.declared.Field.the-variants.{First}
 use Rattle.serving.specs.declared.Stage.{Stage}
 use Rattle.serving.specs.declared.Stage.the-variants as stage
 use Rattle.serving.specs.End as end
-use Rattle.serving.specs.End.{Setup, Asked, asked, Standing, machine, used, reply5, reply4, stageAfter}
+use Rattle.serving.specs.End.{Setup, Asked, asked, Standing, machine, used, endpointOf, reply5, reply4, stageAfter}
 use Rattle.serving.specs.Side.{talkAt, server, standingOf}
 use Rattle.talk.specs.Talk.{feed, reached}
 
@@ -133,6 +134,8 @@ pub record Worked : Type 0 where
   pub hands4 : Gives anyone (offering 0x00 (connect 1 (0x05 ∷ []))) (0x05 ∷ 0x00 ∷ []) (asks (asked V5 (endpoint (ipv4 (1 ∷ 2 ∷ 3 ∷ 4 ∷ [])) 80))) 13
   pub hands6 : Gives known (offering 0x02 (login (0x05 ∷ 0x01 ∷ 0x00 ∷ 0x04 ∷ (replicate 15 0x00 ++ (0x01 ∷ 0x00 ∷ 0x50 ∷ []))))) (0x05 ∷ 0x02 ∷ 0x01 ∷ 0x00 ∷ []) (asks (asked V5 (endpoint (ipv6 (replicate 15 0x00 ++ (0x01 ∷ []))) 80))) 31
   -- "The caller gives back a status and a bound IPv4 or IPv6 address with port"
+  pub gives4 : endpointOf (record { family = Four; address = 1 ∷ 2 ∷ 3 ∷ 4 ∷ replicate 12 0x00 }) 443 ≡ endpoint (ipv4 (1 ∷ 2 ∷ 3 ∷ 4 ∷ [])) 443
+  pub gives6 : endpointOf (record { family = Six; address = replicate 16 0x01 }) 80 ≡ endpoint (ipv6 (replicate 16 0x01)) 80
   pub answers5 : reply5 0 (endpoint (ipv4 (1 ∷ 2 ∷ 3 ∷ 4 ∷ [])) 443) ≡ 0x05 ∷ 0x00 ∷ 0x00 ∷ 0x01 ∷ 1 ∷ 2 ∷ 3 ∷ 4 ∷ 0x01 ∷ 0xBB ∷ []
   pub answers4 : reply4 90 (endpoint (ipv4 (1 ∷ 2 ∷ 3 ∷ 4 ∷ [])) 443) ≡ 0x00 ∷ 90 ∷ 0x01 ∷ 0xBB ∷ 1 ∷ 2 ∷ 3 ∷ 4 ∷ []
   -- "a status unknown to the version goes as 1 or 91, an IPv6 address to v4 as zeros"

@@ -10,9 +10,6 @@ use Rattle.protocol.specs.Opening.{recordFamily}
 use Rattle.protocol.specs.Bound.{Endpoint, endpoint}
 use Rattle.serving.specs.End.{boundField, dstIp}
 
-abbrev pub endpointOf : Record → ℕ → Endpoint
-endpointOf r port = endpoint (recordFamily (r .family) (r .address)) port
-
 abbrev pub noAddress : Record
 noAddress = record { family = Four; address = replicate 16 0 }
 

@@ -2,7 +2,7 @@
 ghost use mathlib.Core.Path.{_≡_};
 ghost use Rattle.serving.specs.End as machine;
 ghost use Rattle.serving.specs.End.{stageAfter};
-ghost use Rattle.serving_replies.specs.Replies.{endpointOf};
+ghost use Rattle.serving.specs.End.{endpointOf};
 ghost use Rattle.serving_stages.specs.Told.{outcomeAt, hasDestination, unended, endAt};
 ghost use Rattle.serving_stages.specs.Answers.{unanswered, answerAsked, answerAt, Answers};
 use protocol::Answer;

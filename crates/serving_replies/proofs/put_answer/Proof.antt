@@ -1,5 +1,5 @@
 use Rattle.serving_replies.proofs.Laws.{answers-four, answers-five}
-use Rattle.serving_replies.specs.Replies.{endpointOf}
+use Rattle.serving.specs.End.{endpointOf}
 use borrow.Author.Needs.{needs}
 use Rattle.serving_replies.proofs.put_answer.Statement.{statement}
 use Rattle.serving_replies.proofs.put_answer.Tie as tie

@@ -1,4 +1,4 @@
-use Rattle.serving_replies.specs.Replies.{endpointOf}
+use Rattle.serving.specs.End.{endpointOf}
 use Rattle.serving_stages.proofs.Laws.{answers-short, answers-sent}
 use borrow.Author.Needs.{needs}
 use Rattle.serving_stages.proofs.answer_asked.Statement.{statement}

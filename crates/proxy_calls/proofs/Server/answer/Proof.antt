@@ -1,4 +1,4 @@
-use Rattle.serving_replies.specs.Replies.{endpointOf}
+use Rattle.serving.specs.End.{endpointOf}
 use Rattle.proxy_calls.proofs.Laws.{answers}
 use borrow.Author.Needs.{needs}
 use Rattle.proxy_calls.proofs.Server.answer.Statement.{statement}
