@@ -1,7 +1,9 @@
 pub mod Refusals
 pub mod Relays
+pub mod Turns
 pub mod Tunnels
 pub mod Openings
 pub mod Tries
 pub mod Attempts
 pub mod Single
+pub mod Claims

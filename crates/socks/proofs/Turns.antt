@@ -1,5 +1,5 @@
 -- Demand 1 and F-7: which call is in turn, what a refused one leaves, and what an accepted one does, of any session.
-use Prim.Native.Nat.{ℕ, _≤_, _<_}
+use Prim.Native.Nat.{ℕ, _+_, _≤_, _<_}
 use native.Mathlib.Omega.{arith}
 use mathlib.Core.Path.{_≡_, refl, ap, sym, subst, _∙_}
 use mathlib.Core.Logic.{_↔_, _⊎_, inl, inr}
@@ -12,6 +12,7 @@ use borrow.Author.Tests.{lt-leb, leb-true, leb-false, not-true}
 use Rattle.protocol.specs.declared.Answer.the-variants.{Accepted, Refused}
 use Rattle.protocol.specs.declared.Bound.{Bound}
 use Rattle.protocol.specs.declared.Outcome.the-variants as outcomes
+use Rattle.protocol.specs.declared.Reply.{Reply}
 use Rattle.protocol.specs.declared.Reply.the-variants.{NegotiationRes, AuthenticationRes, ProxyRes, Response}
 use Rattle.protocol.specs.declared.SocksError.{SocksError}
 use Rattle.protocol.specs.declared.SocksError.the-variants.{ShortOutput, UnexpectedEof, Settled, NotOpen, ShortText, OutOfOrder}
@@ -25,10 +26,11 @@ use Rattle.bound_text.specs.Written.{TextCall, unwritten, writeText}
 use Rattle.sending.specs.declared.Requests.{Requests}
 use Rattle.sending.specs.declared.Stage.{Stage}
 use Rattle.sending.specs.declared.Stage.the-variants.{Awaiting, Open, Failed}
-use Rattle.sending.specs.Parts.{requestsOf}
+use Rattle.sending.specs.declared.Lengths.{Lengths}
+use Rattle.sending.specs.Parts.{negotiationSize, authenticationSize, proxySize, requestsOf, firstOf}
 use Rattle.sending.specs.Stages.{SideSession, viewAt, rank}
 use Rattle.sending.proofs.Sending.{kept-limits}
-use Rattle.starting.specs.Starting.{firstSize}
+use Rattle.starting.specs.Starting.{firstSize5, firstSize}
 use Rattle.starting.proofs.Laws.{first-part, first-fits}
 use Rattle.stages.specs.Told.{isOpen}
 use Rattle.session.specs.declared.Session.{Session}
@@ -44,7 +46,7 @@ use Rattle.talk.proofs.Sends.{stand-at, none-sent}
 
 -- ---- what is told of a session, by the side's session that it stands for
 
-over-just : (m : SideSession) → isOver m ≡ true ↔ (outcomeOf m ≡ outcomes.Waiting → ⊥)
+pub over-just : (m : SideSession) → isOver m ≡ true ↔ (outcomeOf m ≡ outcomes.Waiting → ⊥)
 over-just (waiting e h) = (λ q. absurd (true≢false (sym q)), λ f. absurd (f refl))
 over-just (ended (done x)) = (λ q r. let z : _≡_ {A = ℕ} 0 1 = cc in absurd (omega arith), λ f. refl)
 over-just (ended (failed e)) = (λ q r. let z : _≡_ {A = ℕ} 0 1 = cc in absurd (omega arith), λ f. refl)
@@ -72,6 +74,23 @@ sends-room : (stage : Stage) (r : Requests) → sendsAt stage r ≤ roomAt stage
 sends-room (Awaiting e) r = asks-more (r .lengths .optimistic) e
 sends-room Open r = omega arith
 sends-room (Failed x) r = omega arith
+
+-- what goes first and what may then still be sent have room in 1,024 bytes
+first5-room : (l : Lengths) → firstSize5 l + cond (l .optimistic) 0 775 ≤ 1024
+first5-room l = go (l .optimistic)
+  where
+    go : (o : Bool) → cond o (negotiationSize l + authenticationSize l + proxySize l) (negotiationSize l) + cond o 0 775 ≤ 1024
+    go true = omega arith
+    go false = omega arith
+
+pub first-room : (e : Reply) (r : Requests) → length (firstOf e r) + sendsMost (r .lengths .optimistic) e ≤ 1024
+first-room e r = rw (first-part e r) (omega (arith, length-take (firstSize (r .lengths) e) (r .bytes), go e))
+  where
+    go : (e : Reply) → firstSize (r .lengths) e + sendsMost (r .lengths .optimistic) e ≤ 1024
+    go (NegotiationRes m) = first5-room (r .lengths)
+    go AuthenticationRes = first5-room (r .lengths)
+    go ProxyRes = first5-room (r .lengths)
+    go Response = omega arith
 
 -- ---- a call by its three tests: settled, out of order, output long enough
 
