@@ -7,3 +7,4 @@ pub mod Counts
 pub mod RouteRows
 pub mod RouteKept
 pub mod RouteOpened
+pub mod Claims
