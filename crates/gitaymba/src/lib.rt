@@ -12,7 +12,7 @@ ghost use Rattle.raw_session.specs.Raw.{sessionOf};
 ghost use Rattle.raw_server.specs.Raw.{serverOf, standingOf};
 ghost use Rattle.raw_openings.specs.Given.{given5, given4, preparedStep};
 ghost use Rattle.raw_calls.specs.Calls.{stepBy, Says};
-ghost use Rattle.raw_told.specs.Told.{rawOutcome, rawBound, Tells};
+ghost use Rattle.raw_told.specs.Told.{rawOutcome, rawBound, rawAttempts, Tells};
 ghost use Rattle.raw_proxy.specs.Calls.{recordOf, setUpServed, servedBy, Serves};
 ghost use Rattle.raw_asked.specs.Asked.{targetOf};
 ghost use Rattle.talk.specs.Tunnel.{rest};
@@ -111,7 +111,7 @@ pub extern "C" fn gitaymba_bound_text(session: RawSession, text: &mut [u8; 261])
 // For each accepted delivery of a nonempty piece the replies decided in it, and one more if it ended waiting.
 #[no_mangle]
 pub extern "C" fn gitaymba_attempts(session: RawSession) -> u64
-    ensures { λ r. ⌜ r ≡ session .attempts ⌝ }
+    ensures { λ r. ⌜ r ≡ rawAttempts session ⌝ }
 {
     raw_told::attempts(session)
 }

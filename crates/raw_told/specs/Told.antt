@@ -22,6 +22,9 @@ addressOf a = record { port = a .port; kind = kindNumber (a .kind); len = a .len
 abbrev pub rawBound : RawSession → RawAddress
 rawBound r = addressOf (bound (sessionOf r))
 
+abbrev pub rawAttempts : RawSession → ℕ
+rawAttempts r = sessionOf r .attempts
+
 -- what the call that writes a text returns, and leaves in the buffer
 pub record Tells (c : TextCall) (r : RawText) (text′ : List ℕ) : Type 0 where
   pub returned : r ≡ record { len = c .len; answer = answerNumber (c .answer) }

@@ -5,7 +5,7 @@ ghost use lib.ListN.{length};
 ghost use Rattle.talk.specs.Tunnel.{rest};
 ghost use Rattle.session.specs.Session.{writeBound};
 ghost use Rattle.raw_session.specs.Raw.{sessionOf};
-ghost use Rattle.raw_told.specs.Told.{rawOutcome, rawBound, Tells};
+ghost use Rattle.raw_told.specs.Told.{rawOutcome, rawBound, rawAttempts, Tells};
 use error_numbers::answer_number;
 use raw_numbers::kind_number;
 use raw_session::RawOutcome;
@@ -63,7 +63,7 @@ pub fn bound_text(session: RawSession, text: &mut [u8]) -> RawText
 }
 
 pub fn attempts(session: RawSession) -> u64
-    ensures { λ r. ⌜ r ≡ session .attempts ⌝ }
+    ensures { λ r. ⌜ r ≡ rawAttempts session ⌝ }
 {
     session.attempts
 }

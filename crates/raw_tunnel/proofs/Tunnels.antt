@@ -1,5 +1,5 @@
 -- Demand 3 over raw sessions: that over the sessions that they mean.
-use Prim.Native.Nat.{ℕ}
+use Prim.Native.Nat.{ℕ, _≤_}
 use native.Mathlib.Omega.{arith}
 use mathlib.Core.Path.{_≡_, refl, ap, sym, subst, _∙_}
 use mathlib.Core.Logic.{_↔_}
@@ -13,22 +13,24 @@ use Rattle.protocol.specs.declared.Outcome.{Outcome}
 use Rattle.protocol.specs.declared.Outcome.the-variants.{Waiting, Open, Failed}
 use Rattle.protocol.specs.Bytes.{BytePieces}
 use Rattle.protocol.specs.Numbers.{answerNumber}
-use Rattle.protocol.specs.Opening.{Opening, v5, v4, opening5, opening4, check5, check4, firstReply, deliveryRoom}
+use Rattle.protocol.specs.Opening.{Opening, v5, v4, opening5, opening4, check5, check4, startRoom, deliveryRoom}
 use Rattle.protocol.specs.Grammar.{Replied}
-use Rattle.protocol.proofs.Limits.{number-accepted, number-is}
-use Rattle.sending.specs.declared.Stage.the-variants.{Awaiting}
+use Rattle.protocol.proofs.Limits.{number-is}
 use Rattle.session.specs.declared.Session.{Session}
 use Rattle.session.specs.Session.{outcome, bound}
-use Rattle.session.specs.Calls.{preparedFor, preparedBy, prepare5, prepare4, start, deliver, receiver}
-use Rattle.socks.specs.Demand3.{Demand3, Tunnelled}
-use Rattle.socks.proofs.Refusals.{start-number}
-use Rattle.socks.proofs.Openings.{demand3-v5, demand3-v4}
+use Rattle.session.specs.Calls.{preparedFor, preparedBy, prepare5, prepare4, start, deliver}
+use Rattle.socks.specs.Demand3.{receiver, Demand3, Tunnelled}
+use Rattle.socks.specs.Attempts.{Effort, Tried}
+use Rattle.socks.specs.Turns.{Asking}
+use Rattle.socks.proofs.Openings.{demand3-v5, demand3-v4, asking-v5, asking-v4}
+use Rattle.socks.proofs.Attempts.{attempts-v5, attempts-v4}
+use Rattle.socks.proofs.Claims.{starts-0}
 use Rattle.raw_session.specs.declared.RawOutcome.{RawOutcome}
 use Rattle.raw_session.specs.Raw.{rawOf, outcomeOf}
 use Rattle.raw_session.proofs.Back.{session-back}
 use Rattle.raw_records.proofs.Sixteen.{sixteen}
 use Rattle.raw_openings.specs.Given.{given5, given4, preparedStep}
-use Rattle.raw_told.specs.Told.{rawOutcome, addressOf, rawBound}
+use Rattle.raw_told.specs.Told.{rawOutcome, addressOf, rawBound, rawAttempts}
 use Rattle.raw_tunnel.specs.Demand3 as raw
 use Rattle.raw_tunnel.specs.Demand3.{returned, Lent, RawDemand3, RawTunnelled, RawTunnelled5, RawTunnelled4}
 use Rattle.raw_tunnel.proofs.Turns.{enough}
@@ -63,8 +65,8 @@ module _ (o : Opening) (s : Session) where
     bounds : rawBound (after raw.receiver (rawOf s) ds) ≡ addressOf (bound (after (receiver n) s ds))
     bounds = ap rawBound (carried .session) ∙ ap (λ (t : Session). addressOf (bound t)) (session-back (after (receiver n) s ds))
 
-  raw-demand3 : (sent : List ℕ) (ds : List Delivery) → Lent ds → Demand3 o s sent ds → RawDemand3 o (rawOf s) sent ds
-  raw-demand3 sent ds l h =
+  raw-demand3 : (sent : List ℕ) (ds : List Delivery) → Lent ds → Demand3 o s sent ds → Effort o s ds → RawDemand3 o (rawOf s) sent ds
+  raw-demand3 sent ds l h a =
       let w = carried ds l in
       let x = outcome (after (receiver n) s ds) in
       let e = ap (λ (y : RawOutcome). y .state) (outcomes ds l) in
@@ -76,6 +78,7 @@ module _ (o : Opening) (s : Session) where
         sent-as = rw (w .joins, w .sent) (h .sent-as);
         outcome-as = outcomes ds l ∙ ap outcomeOf (h .outcome-as) ∙ rw (w .joins);
         count-as = rw (w .joins, w .count) (h .count-as);
+        attempts-are = ap rawAttempts (w .session) ∙ ap (λ (t : Session). t .attempts) (session-back (after (receiver n) s ds)) ∙ a .attempts-are;
         alike = λ ds′ l′ q.
             let w′ = carried ds′ l′ in
             let a = h .alike ds′ (sym (w′ .joins) ∙ q ∙ w .joins) in
@@ -90,29 +93,30 @@ module _ (o : Opening) (s : Session) where
 
 -- ---- openings
 
--- what is prepared starts with 1,024 bytes of output
-starts-lent : (o : Opening) (out : List ℕ) → length out ≡ 1024 → answerNumber (start (preparedFor o) out .answer) ≡ 0
-starts-lent o out l = start-number (preparedFor o) out ∙ rw (l, enough (Awaiting (firstReply o)) .0)
+-- 1,024 bytes are enough to start with
+roomy : (o : Opening) (out : List ℕ) → length out ≡ 1024 → startRoom o ≤ length out
+roomy (v5 c d port b) out l = omega arith
+roomy (v4 d port) out l = omega arith
 
-raw-tunnelled : (x : Answer) (o : Opening) → Tunnelled (preparedBy x o) o → RawTunnelled (preparedStep (preparedBy x o)) o
-raw-tunnelled Accepted o h p out l =
+raw-tunnelled : (x : Answer) (o : Opening) → Tunnelled (preparedBy x o) o → Tried (preparedBy x o) o → Asking (preparedBy x o) o → RawTunnelled (preparedStep (preparedBy x o)) o
+raw-tunnelled Accepted o h t k p out l =
     let s = preparedFor o in
-    let z = starts-lent o out l in
+    let z = starts-0 (preparedBy Accepted o) o k refl refl out (roomy o out l) in
     subst (λ (t : Session). (returned (start t out) .answer ≡ 0)
     × ((ds : List Delivery) → BytePieces ds → Lent ds
     → RawDemand3 o (returned (start t out) .session) (take (returned (start t out) .sent) (returned (start t out) .output)) ds))
     (sym (session-back s))
-    (z, λ ds y k. raw-demand3 o (start s out .session) _ ds k (h out refl (number-accepted _ z) ds y))
-raw-tunnelled (Refused e) o h p out l = let n = number-is e .0 in absurd (omega arith)
+    (ap answerNumber z, λ ds y m. raw-demand3 o (start s out .session) _ ds m (h out refl z ds y) (t out refl z ds y))
+raw-tunnelled (Refused e) o h t k p out l = let n = number-is e .0 in absurd (omega arith)
 
 pub raw-demand3-v5 : RawTunnelled5
 unfolding prepare5
 raw-demand3-v5 c host port user password records =
     let a = given5 c host port user password records in
-    raw-tunnelled (check5 a) (opening5 a) (demand3-v5 a (sixteen records))
+    raw-tunnelled (check5 a) (opening5 a) (demand3-v5 a (sixteen records)) (attempts-v5 a (sixteen records)) (asking-v5 a)
 
 pub raw-demand3-v4 : RawTunnelled4
 unfolding prepare4
 raw-demand3-v4 localDns host port records =
     let a = given4 localDns host port records in
-    raw-tunnelled (check4 a) (opening4 a) (demand3-v4 a)
+    raw-tunnelled (check4 a) (opening4 a) (demand3-v4 a) (attempts-v4 a) (asking-v4 a)

@@ -2,32 +2,43 @@
 use Prim.Native.Nat.{ℕ, zero, suc}
 use native.Mathlib.Omega.{arith}
 use mathlib.Core.Path.{_≡_, refl, ap, sym, _∙_}
-use mathlib.Core.Logic.{_↔_}
-use mathlib.Core.Bool.{Bool, true, false, true≢false, cond, not}
+use mathlib.Core.Logic.{_↔_, _⊎_, inl, inr}
+use mathlib.Core.Bool.{Bool, true, true≢false, not}
 use mathlib.Core.List.{List, [], _∷_}
+use lib.ListN.{length}
 use lib.Dec.{leb, lit<}
 use borrow.Author.Tests.{ne-eqb}
 use Rattle.protocol.specs.declared.Answer.{Answer}
 use Rattle.protocol.specs.declared.Answer.the-variants.{Accepted, Refused}
+use Rattle.protocol.specs.declared.Address.{Address}
+use Rattle.protocol.specs.declared.Outcome.{Outcome}
+use Rattle.protocol.specs.declared.Outcome.the-variants as outcomes
 use Rattle.protocol.specs.declared.Reply.the-variants.{NegotiationRes, AuthenticationRes, ProxyRes, Response}
 use Rattle.protocol.specs.declared.SocksError.{SocksError}
-use Rattle.protocol.specs.declared.SocksError.the-variants.{Settled, OutOfOrder}
+use Rattle.protocol.specs.declared.SocksError.the-variants.{ShortOutput, Settled, OutOfOrder}
 use Rattle.protocol.specs.Client as client
 use Rattle.protocol.specs.Numbers.{answerNumber}
-use Rattle.protocol.specs.Opening.{_↣_, Answers, refuse}
+use Rattle.protocol.specs.Opening.{Condition, _↣_, conditions5, conditions4, First, Answers, refuse}
 use Rattle.protocol.proofs.Openings.{all-passed, checked}
+use Rattle.protocol.proofs.Limits.{number-accepted}
 use Rattle.sending.specs.declared.Stage.{Stage}
 use Rattle.sending.specs.declared.Stage.the-variants.{Awaiting, Open, Failed}
 use Rattle.sending.specs.Stages.{SideSession}
-use Rattle.session.specs.Session.{view, firstRoomAt, roomAt, writeBound}
-use Rattle.session.specs.Calls.{Call, refusal, start, deliver, end}
-use Rattle.socks.proofs.Refusals as refusals
-use Rattle.raw_numbers.specs.Numbers.{truth}
+use Rattle.session.specs.declared.Session.{Session}
+use Rattle.session.specs.declared.Prepared.{Prepared}
+use Rattle.session.specs.Session.{view, outcome, bound, firstRoomAt, roomAt, writeBound}
+use Rattle.session.specs.Calls.{Call, refusal, prepare5, prepare4, start, deliver, end}
+use Rattle.socks.specs.Turns.{Tells, Preparing, InTurn}
+use Rattle.socks.proofs.Refusals.{preparing5, preparing4}
+use Rattle.socks.proofs.Turns.{start-answers, start-untouched, start-accepts, deliver-answers, end-answers, end-untouched, end-accepts, any-in-turn}
+use Rattle.raw_numbers.specs.Numbers.{truth, bit}
 use Rattle.raw_errors.specs.Errors.{errorOf, errorAmong}
 use Rattle.raw_session.specs.declared.RawSession.{RawSession}
 use Rattle.raw_session.specs.Raw.{sessionOf, rawOf, outcomeOf, stageOf}
+use Rattle.raw_session.proofs.Back.{session-back}
+use Rattle.raw_told.specs.Told.{addressOf}
 use Rattle.raw_tunnel.specs.Demand3.{returned}
-use Rattle.raw_tunnel.specs.Turns.{Untouched, RawTurns, Zeros}
+use Rattle.raw_tunnel.specs.Turns.{RawTells, Untouched, RawInTurn, RawTurns, StepsTold, RawPreparing, RawPrepares, Zeros}
 use Rattle.talk.specs.Talk.{waiting, ended, done, failed, isOver}
 
 -- ---- the conditions, in numbers
@@ -47,6 +58,22 @@ unfolding truth
 unstarted-just zero = (λ q. refl, λ q. refl)
 unstarted-just (suc n) = rw (ne-eqb (suc n) 0 (λ e. omega arith)) (λ q. absurd (true≢false (sym q)), λ e. absurd (omega arith))
 
+-- a condition told in other words
+same-conditions : {n m : ℕ} {P Q : Type 0} {cs : List Condition} → P ↔ Q → Answers n (((Q → ⊥) ↣ m) ∷ cs) → Answers n (((P → ⊥) ↣ m) ∷ cs)
+same-conditions {n} {m} {P} {Q} {cs} e a =
+    record {
+      accepts = (λ q. let z = a .accepts .0 q in (λ f. z .0 (λ y. f (e .1 y)), z .1), λ z. a .accepts .1 (λ f. z .0 (λ x. f (e .0 x)), z .1));
+      refuses = λ k h. (λ q. to k (a .refuses k h .0 q), λ f. a .refuses k h .1 (back k f));
+    }
+  where
+    to : (k : ℕ) → First k (((Q → ⊥) ↣ m) ∷ cs) → First k (((P → ⊥) ↣ m) ∷ cs)
+    to k (inl (f, q)) = inl (λ x. f (e .0 x), q)
+    to k (inr (f, r)) = inr (λ g. f (λ y. g (e .1 y)), r)
+
+    back : (k : ℕ) → First k (((P → ⊥) ↣ m) ∷ cs) → First k (((Q → ⊥) ↣ m) ∷ cs)
+    back k (inl (f, q)) = inl (λ y. f (e .1 y), q)
+    back k (inr (f, r)) = inr (λ g. f (λ x. g (e .0 x)), r)
+
 -- ---- 1,024 bytes are enough for every start and delivery
 
 pub enough : (t : Stage) → (leb (firstRoomAt t) 1024 ≡ true) × (leb (roomAt t) 1024 ≡ true)
@@ -59,14 +86,9 @@ enough (Failed e) = (refl, refl)
 
 -- ---- 16, then 22
 
-in-order : {P Q : Type 0} (n : ℕ) (a b : Bool) → n ≡ cond a 16 (cond b 22 0) → a ≡ true ↔ P → b ≡ true ↔ Q → Answers n ((P ↣ 16) ∷ (Q ↣ 22) ∷ [])
-in-order n a b e p q =
-    rw (e ∙ go a b) (checked a _ Settled 16 _ _ refl (lit< tt) p (checked b _ OutOfOrder 22 Accepted [] refl (lit< tt) q all-passed))
-  where
-    go : (a b : Bool) → cond a 16 (cond b 22 0) ≡ answerNumber (refuse a Settled (refuse b OutOfOrder Accepted))
-    go true b = refl
-    go false true = refl
-    go false false = refl
+in-order : {P Q : Type 0} (a b c : Bool) → c ≡ true → a ≡ true ↔ P → b ≡ true ↔ Q
+    → Answers (answerNumber (refuse a Settled (refuse b OutOfOrder (refuse (not c) ShortOutput Accepted)))) ((P ↣ 16) ∷ (Q ↣ 22) ∷ [])
+in-order a b c e p q = rw e (checked a _ Settled 16 _ _ refl (lit< tt) p (checked b _ OutOfOrder 22 Accepted [] refl (lit< tt) q all-passed))
 
 -- ---- what a refused call leaves
 
@@ -79,18 +101,85 @@ untouched c r out h n = go (c .answer) refl
     go (Refused e) q =
         let z = h e q in λ i. record { answer = answerNumber (c .answer); session = rawOf (z i .session); used = z i .used; sent = z i .sent; output = z i .output }
 
-pub raw-turns : RawTurns
-raw-turns r out l =
+-- ---- what is told of the session that a call returns
+
+told : (s : Session) {how : Outcome} {at : Address} {tries : ℕ} → Tells s how at tries → RawTells (rawOf s) (outcomeOf how) (addressOf at) tries
+told s w =
+    let b = session-back s in
+    record {
+      outcomes = ap (λ (t : Session). outcomeOf (outcome t)) b ∙ ap outcomeOf (w .outcomes);
+      bounds = ap (λ (t : Session). addressOf (bound t)) b ∙ ap addressOf (w .bounds);
+      attempts = ap (λ (t : Session). t .attempts) b ∙ w .attempts;
+    }
+
+pub steps-told : StepsTold
+steps-told c = sym (ap (λ (t : Session). outcomeOf (outcome t)) (session-back (c .session)))
+
+-- a refused call uses and sends nothing, an accepted start or end neither uses
+start-used : (s : Session) (out : List ℕ) → start s out .used ≡ 0
+start-used s out = go (start s out .answer) refl
+  where
+    go : (x : Answer) → start s out .answer ≡ x → start s out .used ≡ 0
+    go Accepted q = ap (λ (c : Call). c .used) (start-accepts s out q)
+    go (Refused e) q = ap (λ (c : Call). c .used) (start-untouched s out e q)
+
+end-counts : (s : Session) → (end s .used ≡ 0) × (end s .sent ≡ 0)
+end-counts s = go (end s .answer) refl
+  where
+    go : (x : Answer) → end s .answer ≡ x → (end s .used ≡ 0) × (end s .sent ≡ 0)
+    go Accepted q = let c = end-accepts s q in (ap (λ (c : Call). c .used) c, ap (λ (c : Call). c .sent) c)
+    go (Refused e) q = let c = end-untouched s e q in (ap (λ (c : Call). c .used) c, ap (λ (c : Call). c .sent) c)
+
+open-number : (x : Outcome) → outcomeOf x .state ≡ 1 ↔ (x ≡ outcomes.Open)
+open-number outcomes.Waiting = (λ q. absurd (omega arith), λ q. ap (λ (x : Outcome). outcomeOf x .state) q)
+open-number outcomes.Open = (λ q. refl, λ q. refl)
+open-number (outcomes.Failed e) = (λ q. absurd (omega arith), λ q. ap (λ (x : Outcome). outcomeOf x .state) q)
+
+turns : (r : RawSession) (out : List ℕ) → length out ≡ 1024 → (first next : ℕ) → InTurn first next (sessionOf r) → RawInTurn r out
+turns r out l first next t =
     let s = sessionOf r in
     let over = over-just (view s) in
     record {
-      start-number = in-order _ _ _ (refusals.start-number s out ∙ rw (l, enough (s .stage) .0)) over (started-just (r .started));
-      deliver-number = λ piece. in-order _ _ _ (refusals.deliver-number s out piece ∙ rw (l, enough (s .stage) .1)) over (unstarted-just (r .started));
-      end-number = in-order _ _ _ (refusals.end-number s) over (unstarted-just (r .started));
-      start-untouched = untouched (start s out) r out (refusals.start-refuses s out);
-      deliver-untouched = λ piece. untouched (deliver s piece out) r out (refusals.deliver-refuses s out piece);
-      end-untouched = untouched (end s) r [] (refusals.end-refuses s);
+      start-number = rw (start-answers s out, l) (in-order _ _ _ (enough (s .stage) .0) over (started-just (r .started)));
+      deliver-number = λ piece. rw (deliver-answers s piece out, l) (in-order _ _ _ (enough (s .stage) .1) over (unstarted-just (r .started)));
+      end-number = rw (end-answers s) (in-order _ _ true refl over (unstarted-just (r .started)));
+      start-untouched = untouched (start s out) r out (t .start-untouched out);
+      deliver-untouched = λ piece. untouched (deliver s piece out) r out (t .deliver-untouched piece out);
+      end-untouched = untouched (end s) r [] (t .end-untouched);
+      start-used = start-used s out;
+      end-used = end-counts s .0;
+      end-sent = end-counts s .1;
+      start-marks = λ q. ap bit (t .start-marks out (number-accepted _ q));
+      start-keeps = λ q. told (start s out .session) (t .start-keeps out (number-accepted _ q));
+      end-fails = λ q. told (end s .session) (t .end-fails (number-accepted _ q));
+      start-behind = let b = t .start-behind out in record { bytes = b .bytes; size = b .size };
+      deliver-behind = λ piece. let b = t .deliver-behind piece out in record { bytes = b .bytes; size = b .size };
+      text-number = λ buffer. same-conditions (open-number (outcome s)) (t .text-number buffer);
+      text-behind = t .text-behind;
     }
+
+pub raw-turns : RawTurns
+raw-turns r out l = go (any-in-turn (sessionOf r))
+  where
+    go : InTurn 778 778 (sessionOf r) ⊎ InTurn 1024 262 (sessionOf r) → RawInTurn r out
+    go (inl t) = turns r out l 778 778 t
+    go (inr t) = turns r out l 1024 262 t
+
+-- ---- preparing
+
+raw-prepares-as : (p : Prepared) (cs : List Condition) → Preparing p cs → RawPreparing p cs
+raw-prepares-as p cs t =
+    record {
+      number = t .number;
+      used = refl;
+      sent = refl;
+      unstarted = λ q. ap bit (t .unstarted (number-accepted _ q));
+      waits = λ q. told (p .session) (t .waits (number-accepted _ q));
+      fails = λ e q. told (p .session) (t .fails e q);
+    }
+
+pub raw-prepares : RawPrepares
+raw-prepares = (λ a. raw-prepares-as (prepare5 a) (conditions5 a) (preparing5 a), λ a. raw-prepares-as (prepare4 a) (conditions4 a) (preparing4 a))
 
 pub zeros : Zeros
 unfolding stageOf errorOf errorAmong start deliver end writeBound

@@ -1,9 +1,9 @@
 -- Demand 3 over raw sessions, one claim over every list of deliveries: a field for each sentence, in the numbers that the calls return. A call lends 1,024 bytes of
 -- output, which is what the most of them ask, so that every piece counts.
-use Prim.Native.Nat.{ℕ}
+use Prim.Native.Nat.{ℕ, _%_, _^_}
 use mathlib.Core.Path.{_≡_}
 use mathlib.Core.Logic.{_↔_}
-use mathlib.Core.List.{List, List·Memᴰ}
+use mathlib.Core.List.{List, [], List·Memᴰ}
 use lib.ListN.{length, take, drop}
 use Rattle.protocol.specs.Bytes.{BytePieces}
 use Rattle.protocol.specs.Bound as endpoints
@@ -11,13 +11,14 @@ use Rattle.protocol.specs.Opening.{Opening, opening5, opening4}
 use Rattle.protocol.specs.Machine.{machine, used}
 use Rattle.protocol.specs.Grammar.{Replied, JustOne}
 use Rattle.session.specs.Calls.{Call, prepare5, prepare4, start, deliver}
+use Rattle.socks.specs.Attempts.{attemptsOf}
 use Rattle.raw_session.specs.declared.RawSession.{RawSession}
 use Rattle.raw_session.specs.Raw.{sessionOf, outcomeOf}
 use Rattle.raw_session.specs.declared.RawStep.{RawStep}
 use Rattle.raw_openings.specs.declared.RawConfig.{RawConfig}
 use Rattle.raw_openings.specs.Given.{given5, given4, preparedStep}
 use Rattle.raw_calls.specs.Calls.{stepBy}
-use Rattle.raw_told.specs.Told.{rawOutcome, addressOf, rawBound}
+use Rattle.raw_told.specs.Told.{rawOutcome, addressOf, rawBound, rawAttempts}
 use Rattle.talk.specs.Tunnel.{Answer, Receiver, Delivery, joined, Tunnel, tunnel}
 
 -- what a call gives back: what the exported function returns, and the output that it leaves
@@ -66,6 +67,8 @@ pub record RawDemand3 (o : Opening) (r : RawSession) (sent : List ℕ) (ds : Lis
   pub sent-as : tunnelOf r sent ds .sent ≡ machine o (joinedOf ds) .sent
   pub outcome-as : rawOutcome (tunnelOf r sent ds .session) ≡ outcomeOf (machine o (joinedOf ds) .outcome)
   pub count-as : tunnelOf r sent ds .count ≡ used o (joinedOf ds)
+  -- F-11: the attempts are those that the plain machine's decisions come to
+  pub attempts-are : rawAttempts (tunnelOf r sent ds .session) ≡ attemptsOf o [] ds % 2 ^ 64
   -- two lists with equal joined bytes are alike in all of these
   pub alike : (ds′ : List Delivery) → Lent ds′ → joinedOf ds′ ≡ joinedOf ds → Alike (tunnelOf r sent ds′) (tunnelOf r sent ds)
 

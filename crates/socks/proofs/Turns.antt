@@ -149,6 +149,10 @@ module _ (s : Session) where
         rw (answered s out begun refl (isOver (view s)) (s .started) (leb (firstRoomAt (s .stage)) (length out)) (leb first (length out)) (λ p q. ap (λ (n : ℕ). leb n (length out)) (f p q)))
         (ordered (isOver (view s)) (s .started) _ _ first (length out) over (λ q. q, λ q. q))
 
+    pub start-answers : start s out .answer ≡ refuse (isOver (view s)) Settled (refuse (s .started) OutOfOrder (refuse (not (leb (firstRoomAt (s .stage)) (length out))) ShortOutput Accepted))
+    unfolding start
+    start-answers = answered s out begun refl (isOver (view s)) (s .started) (leb (firstRoomAt (s .stage)) (length out)) _ (λ p q. refl)
+
     pub start-untouched : Untouched (start s out) s out
     unfolding start
     start-untouched = refuses s out begun refl (isOver (view s)) (s .started) (leb (firstRoomAt (s .stage)) (length out))
@@ -191,6 +195,10 @@ module _ (s : Session) where
     deliver-number next f =
         rw (answered s out (takes s piece out) (taken piece out) (isOver (view s)) (not (s .started)) (leb (roomAt (s .stage)) (length out)) (leb next (length out)) (λ p q. ap (λ (n : ℕ). leb n (length out)) (f p)))
         (ordered (isOver (view s)) (not (s .started)) _ _ next (length out) over (not-just (s .started)))
+
+    pub deliver-answers : deliver s piece out .answer ≡ refuse (isOver (view s)) Settled (refuse (not (s .started)) OutOfOrder (refuse (not (leb (roomAt (s .stage)) (length out))) ShortOutput Accepted))
+    unfolding deliver
+    deliver-answers = answered s out (takes s piece out) (taken piece out) (isOver (view s)) (not (s .started)) (leb (roomAt (s .stage)) (length out)) _ (λ p q. refl)
 
     pub deliver-untouched : Untouched (deliver s piece out) s out
     unfolding deliver
@@ -242,11 +250,15 @@ module _ (s : Session) where
       rw (answered s [] ending refl (isOver (view s)) (not (s .started)) true true (λ p q. refl))
       (checked (isOver (view s)) _ Settled 16 _ _ refl (lit< tt) over (checked (not (s .started)) _ OutOfOrder 22 Accepted [] refl (lit< tt) (not-just (s .started)) all-passed))
 
+  pub end-answers : end s .answer ≡ refuse (isOver (view s)) Settled (refuse (not (s .started)) OutOfOrder Accepted)
+  unfolding end
+  end-answers = answered s [] ending refl (isOver (view s)) (not (s .started)) true true (λ p q. refl)
+
   pub end-untouched : Untouched (end s) s []
   unfolding end
   end-untouched = refuses s [] ending refl (isOver (view s)) (not (s .started)) true
 
-  end-accepts : end s .answer ≡ Accepted → end s ≡ ending
+  pub end-accepts : end s .answer ≡ Accepted → end s ≡ ending
   unfolding end
   end-accepts = accepts s [] ending refl (isOver (view s)) (not (s .started)) true
 
