@@ -159,13 +159,9 @@ exchanges p o r z first a b authenticates user password f n x h out tail tail′
     let be = one-bytes (allRequests o ++ tail′) ye in
     let d = r first a b ds bd in
     let g = all-served authenticates user password f es be in
-    (
-      ds,
-      es,
-      bd,
-      be,
-      exchanged o _ _ ds d _ _ es g x out tail tail′ l (z a) n h (one-joined (clientReceiver o) (allReplies o x ++ tail) (asks-few o)) (one-joined endReceiver (allRequests o ++ tail′) (lit≤ tt)),
-    )
+    let p = one-joined (clientReceiver o) (allReplies o x ++ tail) (asks-few o) in
+    let q = one-joined endReceiver (allRequests o ++ tail′) (lit≤ tt) in
+    (ds, es, bd, be, exchanged o _ _ ds d _ _ es g x out tail tail′ l (z a) n h p q)
 
 accepted : (x : Answer) (o : Opening) → preparedBy x o .answer ≡ Accepted → x ≡ Accepted
 accepted Accepted o e = refl
