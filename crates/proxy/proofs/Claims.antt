@@ -25,7 +25,7 @@ use Rattle.proxy_calls.specs.Server.{outcome, destination}
 use Rattle.proxy_calls.specs.Calls.{Call, refusal, setUp, deliver, answer, end}
 use Rattle.proxy.specs.Served.{outcomeBy, targetBy, handedOut, tunnelOf, joinedOf, Alike, Served}
 use Rattle.proxy.specs.Turns.{failure, Given, nowhere, SettingUp, Untouched, InTurn, Answering, AllAnswering}
-use Rattle.talk.specs.Tunnel.{Answer, Delivery, Behind, Tunnel}
+use Rattle.talk.specs.Tunnel.{Delivery, Behind, Tunnel}
 
 -- ---- a list of deliveries: all that is told of it is the plain machine's, and of two with equal joined bytes the same
 
