@@ -127,6 +127,13 @@ module _ (s : Server) (k : InTurn s) (status : ℕ) (x : Endpoint) (piece out : 
       unasked : outcome s ≡ Asked → ⊥
       unasked r = let z : _≡_ {A = ℕ} 0 1 = cc in omega arith
 
+  -- in turn but lent less than 262 bytes: 1, and all left as it was
+  pub short-refuses : length out < 262 → (outcome s ≡ Waiting → RefusedWith 1 (deliver s piece out) s out) × (outcome s ≡ Asked → RefusedWith 1 (answer s status x out) s out)
+  short-refuses h = (
+    λ q. refused-with 1 (deliver s piece out) s out (lit< tt) (k .deliver-number piece out .refuses 1 (lit< tt) .1 (inr (λ n. n q, inl (h, refl)))) (k .deliver-untouched piece out),
+    λ q. refused-with 1 (answer s status x out) s out (lit< tt) (k .answer-number status x out .refuses 1 (lit< tt) .1 (inr (λ n. n q, inl (h, refl)))) (k .answer-untouched status x out),
+  )
+
   -- one that waits: the end of the stream is taken and comes to 9, and an empty piece, lent enough, is taken and changes nothing
   pub waiting-ends : outcome s ≡ Waiting → called (end s) ≡ (Accepted, 9, Failed UnexpectedEof, nowhere)
   waiting-ends q =
