@@ -5,3 +5,4 @@ pub mod Meet
 pub mod Sendable
 pub mod Versions
 pub mod Calls
+pub mod Claims

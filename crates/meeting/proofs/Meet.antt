@@ -12,11 +12,12 @@ use Rattle.protocol.specs.Opening.{Opening, v5, v4, noAuth, userPass, requests}
 use Rattle.protocol.specs.Grammar.{method-00, method-02}
 use Rattle.protocol.specs.Machine as client
 use Rattle.serving.specs.End.{Setup, End, methodReply, loginReply, machine, used, usedBy}
+use Rattle.proxy.specs.Turns.{Given}
 use Rattle.talk.specs.Lawful.{Begins}
-use Rattle.meeting.specs.Ends.{Sendable, SameCredentials, Given, answerTo, allSent, allRequests, Arrived, Met}
+use Rattle.meeting.specs.Ends.{Sendable, SameCredentials, answerTo, allSent, allReplies, allRequests, Arrived, Met}
 use Rattle.meeting.proofs.Begins.{begins-then}
 use Rattle.meeting.proofs.Requests.{greeted, signs, connecting-sends, signing-sends, asks-all}
-use Rattle.meeting.proofs.Replies.{heard-sends, first-sent, heard-first, heard-login, answered, opens-all}
+use Rattle.meeting.proofs.Replies.{heard-sends, first-sent, heard-first, heard-login, opens-all}
 
 module _ (o : Opening) (c : Setup) (x : Endpoint) (toClient toEnd tail tail′ : List ℕ) (a : Arrived o c x toClient toEnd tail tail′) where
   to-end : (q : List ℕ) → Begins q (client.machine o toClient .sent) → Begins q toEnd
@@ -42,7 +43,7 @@ module _ (o : Opening) (c : Setup) (x : Endpoint) (toClient toEnd tail tail′ :
   unfolding used client.used
   meets z g h (r, e) =
       let m = ap (machine c) e ∙ asks-all o c z g r in
-      let s : allSent (machine c toEnd) x ≡ answered o x = ap (λ (k : End). allSent k x) m in
+      let s : allSent (machine c toEnd) x ≡ allReplies o x = ap (λ (k : End). allSent k x) m in
       let t = ap (client.machine o) (a .from-end ∙ ap (λ (l : List ℕ). l ++ tail) s) ∙ opens-all o x h tail in
       record {
         opened = ap (λ (k : client.Machine). k .outcome) t;
@@ -81,7 +82,7 @@ met o c x z g h toClient toEnd tail tail′ a = meets o c x toClient toEnd tail 
 
 -- and there are such bytes: all requests and all replies
 pub arrived : (o : Opening) (c : Setup) (x : Endpoint) → Sendable o → SameCredentials o c → Given x
-    → (tail tail′ : List ℕ) → Arrived o c x (answered o x ++ tail) (allRequests o ++ tail′) tail tail′
+    → (tail tail′ : List ℕ) → Arrived o c x (allReplies o x ++ tail) (allRequests o ++ tail′) tail tail′
 arrived o c x z g h tail tail′ =
     record {
       from-end = ap (λ (k : End). allSent k x ++ tail) (sym (asks-all o c z g tail′));

@@ -22,11 +22,12 @@ use Rattle.protocol.specs.Replies.{decide}
 use Rattle.protocol.specs.Grammar.{four, six, Word, method-00, method-02, accepted, connected, granted}
 use Rattle.protocol.specs.Machine.{Machine, has, sends, reads, run, machine}
 use Rattle.protocol.proofs.Words.{word-good, word-names}
-use Rattle.serving.specs.End.{methodReply, loginReply, reply5, reply4, replyTo, success, dstIp}
+use Rattle.serving.specs.End.{methodReply, loginReply, reply5, reply4, success, dstIp}
+use Rattle.proxy.specs.Turns.{Given}
 use Rattle.talk.specs.Lawful.{Begins}
-use Rattle.meeting.specs.Ends.{Given, seenOf, versionOf, allRequests}
+use Rattle.meeting.specs.Ends.{seenOf, versionOf, allReplies, allRequests}
 use Rattle.meeting.proofs.Begins.{begins-all, begins-then, sends-on, sends-next, drop-next, gone, gone-so-far, gone-all}
-use Rattle.meeting.proofs.Requests.{port-back, own}
+use Rattle.meeting.proofs.Requests.{port-back}
 
 -- ---- the caller's answer of success is a good reply, and names what is bound
 
@@ -100,24 +101,20 @@ heard-login u p d port b r =
 
 -- ---- all replies
 
--- with the caller's answer
-abbrev pub answered : Opening → Endpoint → List ℕ
-answered o x = own o ++ replyTo (versionOf o) (success (versionOf o)) x
-
 pub opens-all : (o : Opening) (x : Endpoint) → Given x → (r : List ℕ)
-    → machine o (answered o x ++ r) ≡ has (allRequests o) Open (seenOf (versionOf o) x) (length (answered o x))
+    → machine o (allReplies o x ++ r) ≡ has (allRequests o) Open (seenOf (versionOf o) x) (length (allReplies o x))
 opens-all (v5 noAuth d port b) x g r =
     let o = v5 noAuth d port b in
     let w = reply5 0 x in
     heard-first o (NegotiationRes NoAuth) (ProxyRes ∷ []) unbound (methodReply 0x00) (w ++ r) refl method-00
-    ∙ heard-last o 1 ProxyRes x 2 (answered o x ++ r) w r (answers5 (x .address) (x .port) g) refl (omega arith) ∙ ap (has (allRequests o) Open x) (omega arith)
+    ∙ heard-last o 1 ProxyRes x 2 (allReplies o x ++ r) w r (answers5 (x .address) (x .port) g) refl (omega arith) ∙ ap (has (allRequests o) Open x) (omega arith)
 opens-all (v5 (userPass u p) d port b) x g r =
     let o = v5 (userPass u p) d port b in
     let w = reply5 0 x in
     heard-login u p d port b (w ++ r)
-    ∙ heard-last o 2 ProxyRes x 4 (answered o x ++ r) w r (answers5 (x .address) (x .port) g) refl (omega arith) ∙ ap (has (allRequests o) Open x) (omega arith)
+    ∙ heard-last o 2 ProxyRes x 4 (allReplies o x ++ r) w r (answers5 (x .address) (x .port) g) refl (omega arith) ∙ ap (has (allRequests o) Open x) (omega arith)
 opens-all (v4 d port) x g r =
     let o = v4 d port in
-    let bs = answered o x ++ r in
+    let bs = allReplies o x ++ r in
     let w = reply4 90 x in
     heard-none o bs ∙ heard-last o 0 Response (seenOf V4 x) 0 bs w r (answers4 (x .address) (x .port) g) refl (omega arith) ∙ ap (has (allRequests o) Open (seenOf V4 x)) (omega arith)

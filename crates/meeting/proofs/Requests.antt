@@ -21,7 +21,7 @@ use Rattle.serving.proofs.Words.{drop-same, greeting-whole, login-whole, connec
 use Rattle.serving.proofs.Texts.{text-of}
 use Rattle.serving.proofs.Requests.{request-user, behind-plain, behind-name, announces-not}
 use Rattle.talk.specs.Lawful.{Begins}
-use Rattle.meeting.specs.Ends.{Sized, Sized4, Sendable, SameCredentials, versionOf, wantedBy, allRequests}
+use Rattle.meeting.specs.Ends.{Sized, Sized4, Sendable, SameCredentials, versionOf, wantedBy, ownReplies, allRequests}
 use Rattle.meeting.proofs.Begins.{begins-all, begins-then}
 
 pub port-back : (n : ℕ) → twoOf (two n) ≡ n
@@ -151,19 +151,13 @@ signing-sends c sent place bs =
 
 -- ---- all requests of an opening
 
--- what it sends of its own
-abbrev pub own : Opening → List ℕ
-own (v5 noAuth d port o) = methodReply 0x00
-own (v5 (userPass u p) d port o) = methodReply 0x02 ++ loginReply 0x00
-own (v4 d port) = []
-
 -- greeted, and signed in
 pub signs : (c : Setup) (u p : List ℕ) → c .authenticates ≡ true → c .user ≡ u → c .password ≡ p → (r : List ℕ)
     → let bs : List ℕ = 5 ∷ 1 ∷ 2 ∷ (authenticationReq u p ++ r) in machine c bs ≡ connecting (methodReply 0x02 ++ loginReply 0x00) (3 + length (authenticationReq u p)) bs
 signs c u p a e f r = let l = authenticationReq u p in greeted c true (l ++ r) a ∙ signed c (methodReply 0x02) 3 (5 ∷ 1 ∷ 2 ∷ (l ++ r)) u p r refl e f
 
 pub asks-all : (o : Opening) (c : Setup) → Sendable o → SameCredentials o c → (r : List ℕ)
-    → machine c (allRequests o ++ r) ≡ has (own o) (asks (asked (versionOf o) (wantedBy o))) (length (allRequests o))
+    → machine c (allRequests o ++ r) ≡ has (ownReplies o) (asks (asked (versionOf o) (wantedBy o))) (length (allRequests o))
 unfolding negotiationReq
 asks-all (v5 noAuth d port o) c y a r =
     let q = proxyReq d port in

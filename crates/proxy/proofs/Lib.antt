@@ -1,3 +1,4 @@
 pub mod Tunnels
 pub mod Turns
 pub mod Answered
+pub mod Claims

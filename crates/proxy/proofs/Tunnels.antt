@@ -1,28 +1,32 @@
 -- Deliveries to the end that the calls hold are deliveries to the side's session; and F-3's promise.
-use Prim.Native.Nat.{ℕ}
+use Prim.Native.Nat.{ℕ, min, _≤_, zero-le}
 use native.Mathlib.Omega.{arith}
 use mathlib.Core.Path.{_≡_, refl, ap, sym, subst, _∙_}
 use mathlib.Core.Logic.{_↔_, _⊎_, inl, inr}
 use mathlib.Core.Bool.{Bool, true, false, true≢false, cond, _&&_, _||_}
-use mathlib.Core.List.{List, [], _∷_, _++_}
+use mathlib.Core.List.{List, [], _∷_, _++_, List·Memᴰ·head, List·Memᴰ·tail}
 use lib.ListN.{length, take, drop}
-use lib.Seq.{take-append-seam}
-use lib.Dec.{leb, ltb, lit<}
+use lib.Seq.{take-append-seam, take-all}
+use lib.Dec.{leb, ltb, lit<, lit≤}
 use Rattle.protocol.specs.declared.Answer.the-variants.{Accepted, Refused}
 use Rattle.protocol.specs.declared.SocksError.{SocksError}
 use Rattle.protocol.specs.declared.SocksError.the-variants.{ShortOutput, CredentialTooLong, Settled}
+use Rattle.protocol.specs.Bytes.{Bytes, BytePieces, padded}
 use Rattle.protocol.specs.AddressReading.{Destination, ipv4, ipv6, domain}
 use Rattle.protocol.specs.Requests.{kindOf}
 use Rattle.protocol.specs.Bound.{Endpoint, endpoint, kindIn, bytesIn, unbound}
 use Rattle.protocol.specs.Opening.{refuse}
+use Rattle.protocol.proofs.Bytes.{bytes-join}
 use Rattle.protocol.proofs.Openings.{all-passed, checked, less-just}
 use Rattle.serving.specs.declared.Field.the-variants.{First}
 use Rattle.serving.specs.declared.Stage.{Stage}
 use Rattle.serving.specs.declared.Stage.the-variants as stage
-use Rattle.serving.specs.End.{Setup, End, asked, machine, usedBy, used}
+use Rattle.serving.specs.End as plain
+use Rattle.serving.specs.End.{Setup, End, asks, asked, machine, usedBy, used}
 use Rattle.serving.specs.Side.{EndSession, reads, talkAt, server, standingOf}
 use Rattle.serving.proofs.Side.{server-lawful}
 use Rattle.serving.proofs.Feed.{sent-feed, standing-feed, used-feed}
+use Rattle.serving.proofs.Fits.{feed-target}
 use Rattle.judging.specs.Due.{sessionAt}
 use Rattle.destinations.specs.Last.{targetAs}
 use Rattle.serving_stages.specs.declared.Outcome.the-variants as told
@@ -31,13 +35,13 @@ use Rattle.serving_pieces.specs.Pieces.{stageOf}
 use Rattle.proxy_calls.specs.declared.Server.{Server}
 use Rattle.proxy_calls.specs.declared.SetUp.{SetUp}
 use Rattle.proxy_calls.specs.Server.{credentialOf, textOf, setupOf, heldBytes, askedFor, view, packed, outcome, destination, fresh}
-use Rattle.proxy_calls.specs.Calls.{refusal, tooLong, setUp, takes, deliver, receiver}
-use Rattle.proxy.specs.Served.{setupFor, outcomeBy, targetBy, tunnelOf, joinedOf, Served, AllServed}
-use Rattle.proxy.specs.Turns.{SettingUp}
+use Rattle.proxy_calls.specs.Calls.{refusal, tooLong, setUp, takes, deliver}
+use Rattle.proxy.specs.Served.{setupFor, outcomeBy, targetBy, handedOut, receiver, tunnelOf, joinedOf, Served, AllServed}
+use Rattle.proxy.specs.Turns.{Tells, nowhere, SettingUp}
 use Rattle.proxy.proofs.Turns.{clash}
 use Rattle.talk.specs.Talk as talk
 use Rattle.talk.specs.Tunnel as side
-use Rattle.talk.specs.Tunnel.{Delivery, answerTo, given, refusing, accepting}
+use Rattle.talk.specs.Tunnel.{Delivery, lends, answerTo, joined, given, refusing, accepting}
 use Rattle.talk.specs.Follow as like
 use Rattle.talk.proofs.Pieces.{pieces}
 use Rattle.talk.proofs.Follow as follow
@@ -107,6 +111,35 @@ target-told (stage.Asked v) x h = refl
 target-told (stage.Open v) x h = refl
 target-told (stage.Failed e) x h = refl
 
+stage-told : (m : EndSession) (x : plain.Asked) → standingOf m ≡ asks x → stageOf m ≡ stage.Asked (x .version)
+stage-told (talk.waiting f h) x q = let z : _≡_ {A = ℕ} 0 1 = cc in absurd (omega arith)
+stage-told (talk.ended (talk.done y)) x q = let e : y ≡ x = cc in rw e
+stage-told (talk.ended (talk.failed n)) x q = let z : _≡_ {A = ℕ} 0 1 = cc in absurd (omega arith)
+
+-- of joined bytes that are bytes, the destination has at most 1,014, and so it is handed out whole
+joined-bytes : (ds : List Delivery) → BytePieces ds → Bytes (joinedOf ds)
+unfolding joined
+joined-bytes [] y = λ i. zero-le
+joined-bytes (d ∷ ds) y = bytes-join (cond (lends receiver d) (d .piece) []) (joinedOf ds) (go (lends receiver d)) (joined-bytes ds (λ e m. y e (List·Memᴰ·tail m)))
+  where
+    go : (b : Bool) → Bytes (cond b (d .piece) [])
+    go true = y d (List·Memᴰ·head refl)
+    go false = λ i. zero-le
+
+small-target : (c : Setup) (bs : List ℕ) → Bytes bs → length (bytesIn (targetBy (machine c bs .standing) .address)) ≤ 1014
+small-target c bs y = rw (standing-feed c bs) (go (talk.feed (server c) (talkAt c First) bs .session) refl)
+  where
+    go : (m : EndSession) → talk.feed (server c) (talkAt c First) bs .session ≡ m → length (bytesIn (targetBy (standingOf m) .address)) ≤ 1014
+    go (talk.waiting f h) q = lit≤ tt
+    go (talk.ended (talk.done x)) q = feed-target c First bs y x q
+    go (talk.ended (talk.failed e)) q = lit≤ tt
+
+target-whole : (x : Endpoint) → length (bytesIn (x .address)) ≤ 1014 → targetAs x ≡ handedOut x
+target-whole x h =
+    let n : min (length (bytesIn (x .address))) 1014 ≡ length (bytesIn (x .address)) = omega arith in
+    let l = take-all 1014 (bytesIn (x .address)) h in
+    λ i. record { kind = kindIn (x .address); len = n i; bytes = padded 1014 (l i); port = x .port }
+
 -- ---- of an end that stands for the talk fed with no byte
 
 begins : (c : Setup) → talk.feed (server c) (talkAt c First) [] ≡ talk.unmoved (talk.waiting First [])
@@ -115,7 +148,7 @@ begins c = refl
 
 record Fed (c : Setup) (s : Server) (ds : List Delivery) : Type 0 where
   sends : tunnelOf s ds .sent ≡ machine c (joinedOf ds) .sent
-  standings : standingOf (view (tunnelOf s ds .session)) ≡ machine c (joinedOf ds) .standing
+  stages : (x : plain.Asked) → machine c (joinedOf ds) .standing ≡ asks x → tunnelOf s ds .session .stage ≡ stage.Asked (x .version)
   outcomes : outcome (tunnelOf s ds .session) ≡ outcomeBy (machine c (joinedOf ds) .standing)
   targets : destination (tunnelOf s ds .session) ≡ targetAs (targetBy (machine c (joinedOf ds) .standing))
   count : tunnelOf s ds .count ≡ used c (joinedOf ds)
@@ -140,7 +173,7 @@ fed c s b ds =
     let g : e .stage ≡ stageOf m = w .session .staged ∙ ap stageOf (p .session) ∙ rw (← j) in
     record {
       sends = w .sent ∙ ap (λ (x : talk.FedOf N). x .sent ++ side.sentBy (side.receiver N 262) (f .session) ds) (sym z) ∙ p .sent ∙ rw (← j) (sym (sent-feed c bs));
-      standings = q;
+      stages = λ x r. g ∙ stage-told m x (sym (standing-feed c bs) ∙ r);
       outcomes = ap outcomeAt g ∙ outcome-told m ∙ ap outcomeBy (sym (standing-feed c bs));
       targets = ap targetAs (target-told (e .stage) (askedFor e) (heldBytes e) ∙ ap targetBy q);
       count = k;
@@ -189,27 +222,28 @@ module _ (authenticates : Bool) (user password : List ℕ) where
       let u = used-without (joinedOf ds) in
       record {
         sends = f .sends ∙ ap (λ (e : End). e .sent) m;
-        standings = f .standings ∙ ap (λ (e : End). e .standing) m;
+        stages = λ x q. f .stages x (ap (λ (e : End). e .standing) m ∙ q);
         outcomes = f .outcomes ∙ ap (λ (e : End). outcomeBy (e .standing)) m;
         targets = f .targets ∙ ap (λ (e : End). targetAs (targetBy (e .standing))) m;
         count = f .count ∙ u;
         rest = f .rest ∙ ap (λ (n : ℕ). drop n (joinedOf ds)) u;
       }
 
-  served : (ds : List Delivery) → Served asked-for new ds
-  served ds =
+  served : (ds : List Delivery) → BytePieces ds → Served asked-for new ds
+  served ds y =
       let f = kept-fed ds in
       record {
         sent-as = f .sends;
-        standing-as = f .standings;
         outcome-as = f .outcomes;
-        destination-as = f .targets;
+        asked-in = f .stages;
+        destination-as = f .targets ∙ target-whole (targetBy (machine asked-for (joinedOf ds) .standing)) (small-target asked-for (joinedOf ds) (joined-bytes ds y));
         count-as = f .count;
         rests-are = rw (f .count) (f .rest);
         alike = λ ds′ e.
             let g = kept-fed ds′ in
             record {
-              standings = g .standings ∙ ap (λ (l : List ℕ). machine asked-for l .standing) e ∙ sym (f .standings);
+              outcomes = g .outcomes ∙ ap (λ (l : List ℕ). outcomeBy (machine asked-for l .standing)) e ∙ sym (f .outcomes);
+              destinations = g .targets ∙ ap (λ (l : List ℕ). targetAs (targetBy (machine asked-for l .standing))) e ∙ sym (f .targets);
               sent = g .sends ∙ ap (λ (l : List ℕ). machine asked-for l .sent) e ∙ sym (f .sends);
               count = g .count ∙ ap (used asked-for) e ∙ sym (f .count);
               rest = g .rest ∙ ap (λ (l : List ℕ). drop (used asked-for l) l) e ∙ sym (f .rest);
@@ -225,21 +259,21 @@ module _ (authenticates : Bool) (user password : List ℕ) where
   answered true = refl
   answered false = refl
 
-  refused : (b : Bool) (e : SocksError) → set-up b .answer ≡ Refused e → outcome (set-up b .server) ≡ told.Failed CredentialTooLong
-  refused true e q = refl
+  refused : (b : Bool) (e : SocksError) → set-up b .answer ≡ Refused e → Tells (set-up b .server) (told.Failed CredentialTooLong) nowhere
+  refused true e q = record { outcomes = refl; destinations = refl }
   refused false e q = absurd (clash q)
 
-  waits : (b : Bool) → set-up b .answer ≡ Accepted → outcome (set-up b .server) ≡ told.Waiting
+  waits : (b : Bool) → set-up b .answer ≡ Accepted → Tells (set-up b .server) told.Waiting nowhere
   waits true q = absurd (clash (sym q))
-  waits false q = refl
+  waits false q = record { outcomes = refl; destinations = refl }
 
-  accepted : (b : Bool) → set-up b .answer ≡ Accepted → (ds : List Delivery) → Served asked-for (set-up b .server) ds
-  accepted true q ds = absurd (clash (sym q))
-  accepted false q ds = served ds
+  accepted : (b : Bool) → set-up b .answer ≡ Accepted → (ds : List Delivery) → BytePieces ds → Served asked-for (set-up b .server) ds
+  accepted true q ds y = absurd (clash (sym q))
+  accepted false q ds y = served ds y
 
 pub all-served : AllServed
 unfolding setUp
-all-served authenticates user password q ds = accepted authenticates user password (tooLong authenticates user password) q ds
+all-served authenticates user password q ds y = accepted authenticates user password (tooLong authenticates user password) q ds y
 
 -- ---- the set-up's own number
 

@@ -1,34 +1,40 @@
--- F-3: which call is in turn, and that a refused one touches nothing.
-use Prim.Native.Nat.{ℕ, _<_}
+-- F-3: which call is in turn, that a refused one touches nothing, and what an accepted one leaves, of any end.
+use Prim.Native.Nat.{ℕ, _≤_, _<_}
 use native.Mathlib.Omega.{arith}
-use mathlib.Core.Path.{_≡_, refl, ap, sym, _∙_}
+use mathlib.Core.Path.{_≡_, refl, ap, sym, subst, _∙_}
 use mathlib.Core.Logic.{_↔_}
 use mathlib.Core.Bool.{Bool, true, false, true≢false, cond, not}
-use mathlib.Core.List.{List, [], _∷_}
-use lib.ListN.{length}
+use mathlib.Core.List.{List, [], _∷_, _++_}
+use lib.ListN.{length, length-append}
 use lib.Dec.{leb, lit<}
-use borrow.Author.Tests.{lt-leb, leb-false, not-true}
+use borrow.Author.Tests.{lt-leb, leb-true, leb-false, not-true}
 use Rattle.protocol.specs.declared.SocksError.{SocksError}
 use Rattle.protocol.specs.declared.SocksError.the-variants.{ShortOutput, UnexpectedEof, Settled}
 use Rattle.protocol.specs.declared.Answer.the-variants.{Accepted, Refused}
 use Rattle.protocol.specs.declared.Version.{Version}
+use Rattle.protocol.specs.declared.Version.the-variants.{V4, V5}
+use Rattle.protocol.specs.Bytes.{two}
 use Rattle.protocol.specs.Numbers.{answerNumber}
-use Rattle.protocol.specs.Bound.{Endpoint}
+use Rattle.protocol.specs.AddressReading.{Destination, ipv4, ipv6, domain}
+use Rattle.protocol.specs.Bound.{Endpoint, endpoint}
 use Rattle.protocol.specs.Opening.{_↣_, Answers, refuse}
 use Rattle.protocol.proofs.Openings.{all-passed, checked}
 use Rattle.serving.specs.declared.Stage.{Stage}
 use Rattle.serving.specs.declared.Stage.the-variants.{Awaiting, Asked, Open, Failed}
 use Rattle.serving.specs.End.{replyTo, stageAfter}
+use Rattle.serving.proofs.Fits.{feed-sent}
 use Rattle.judging.specs.Due.{sessionAt}
 use Rattle.serving_stages.specs.declared.Outcome.{Outcome}
 use Rattle.serving_stages.specs.declared.Outcome.the-variants as outcome
 use Rattle.serving_stages.specs.Told.{outcomeAt}
 use Rattle.serving_stages.specs.Answers.{refused, sends, answerAt}
 use Rattle.proxy_calls.specs.declared.Server.{Server}
-use Rattle.proxy_calls.specs.Server.{askedFor, heldBytes, view, packed, atStage, outcome as told}
+use Rattle.proxy_calls.specs.Server.{setupOf, sideOf, askedFor, heldBytes, view, packed, atStage, outcome as told}
 use Rattle.proxy_calls.specs.Calls.{Call, refusal, takes, deliver, answerBy, answer, end}
-use Rattle.proxy.specs.Turns.{Untouched, InTurn}
-use Rattle.talk.specs.Talk.{failed, ended, isOver}
+use Rattle.proxy.specs.Turns.{Given, Tells, nowhere, Untouched, InTurn}
+use Rattle.talk.specs.Talk.{failed, ended, onward, isOver}
+use Rattle.talk.specs.Tunnel.{Behind}
+use Rattle.talk.proofs.Sends.{stand-at, none-sent}
 
 pub clash : {e : SocksError} → Accepted ≡ Refused e → ⊥
 clash p = let z : _≡_ {A = ℕ} 0 1 = cc in omega arith
@@ -86,6 +92,11 @@ module _ (s : Server) (out : List ℕ) (k : Call) (x : k .answer ≡ Accepted) w
   accepts false true q = refl
   accepts false false q = absurd (clash (sym q))
 
+  stays : (a b : Bool) → (b ≡ true → Behind k out) → Behind (judged a b) out
+  stays true b f = none-sent _ s 0 out
+  stays false true f = f refl
+  stays false false f = none-sent _ s 0 out
+
 takes-accepts : (s : Server) (piece out : List ℕ) → takes s piece out .answer ≡ Accepted
 takes-accepts s [] out = refl
 takes-accepts s (b ∷ bs) out = refl
@@ -109,6 +120,22 @@ module _ (s : Server) where
   unfolding deliver
   nothing out = accepts s out (takes s [] out) refl (isOver (view s)) (leb 262 (length out))
 
+  -- it sends at most 14 bytes of its own
+  sends-few : (t : Stage) (x : Endpoint) (h more : List ℕ) → length (onward (sideOf s) (sessionAt t x h) more .sent) ≤ 14
+  unfolding onward
+  sends-few (Awaiting f) x h more = feed-sent (setupOf s) f (h ++ more)
+  sends-few (Asked v) x h more = omega arith
+  sends-few (Open v) x h more = omega arith
+  sends-few (Failed e) x h more = omega arith
+
+  deliver-behind : (piece out : List ℕ) → Behind (deliver s piece out) out
+  unfolding deliver
+  deliver-behind piece out = stays s out (takes s piece out) (takes-accepts s piece out) (isOver (view s)) (leb 262 (length out)) (λ q. go piece (leb-true 262 (length out) q))
+    where
+      go : (p : List ℕ) → 262 ≤ length out → Behind (takes s p out) out
+      go [] h = none-sent _ s 0 out
+      go (b ∷ bs) h = stand-at Accepted _ _ (onward (sideOf s) (view s) (b ∷ bs) .sent) out (omega (arith, sends-few (s .stage) (askedFor s) (heldBytes s) (b ∷ bs)))
+
   abbrev ending : Call
   ending = record { answer = Accepted; session = packed s (ended (failed UnexpectedEof)); used = 0; sent = 0; output = [] }
 
@@ -122,7 +149,19 @@ module _ (s : Server) where
   unfolding end
   end-untouched = refuses s [] ending refl (isOver (view s)) true
 
+  end-accepts : end s .answer ≡ Accepted → end s ≡ ending
+  unfolding end
+  end-accepts = accepts s [] ending refl (isOver (view s)) true
+
 -- ---- the caller's answer, by the stage
+
+reply-size : (v : Version) (status : ℕ) (d : Destination) (port : ℕ) → Given (endpoint d port) → length (replyTo v status (endpoint d port)) ≤ 22
+reply-size V4 status (ipv4 a) port g = omega arith
+reply-size V4 status (ipv6 a) port g = omega arith
+reply-size V4 status (domain s) port g = absurd g
+reply-size V5 status (ipv4 a) port g = omega (arith, length-append a (two port))
+reply-size V5 status (ipv6 a) port g = omega (arith, length-append a (two port))
+reply-size V5 status (domain s) port g = absurd g
 
 module _ (s : Server) (status : ℕ) (x : Endpoint) (out : List ℕ) where
   -- at any stage
@@ -164,15 +203,19 @@ module _ (s : Server) (status : ℕ) (x : Endpoint) (out : List ℕ) where
   unfolding answer
   answer-untouched = at-untouched (s .stage)
 
-end-fails : (s : Server) → told s ≡ outcome.Waiting → told (end s .session) ≡ outcome.Failed UnexpectedEof
-unfolding end
-end-fails s q = go (s .stage) refl q
-  where
-    go : (t : Stage) → s .stage ≡ t → outcomeAt t ≡ outcome.Waiting → told (end s .session) ≡ outcome.Failed UnexpectedEof
-    go (Awaiting f) e r = rw e
-    go (Asked v) e r = absurd (true≢false (sym (ap isWaiting r)))
-    go (Open v) e r = absurd (true≢false (sym (ap isWaiting r)))
-    go (Failed x) e r = absurd (true≢false (sym (ap isWaiting r)))
+  at-behind : Given x → (t : Stage) → Behind (at t) out
+  at-behind g (Awaiting f) = none-sent _ _ 0 out
+  at-behind g (Asked v) = go (leb 262 (length out)) refl
+    where
+      go : (b : Bool) → leb 262 (length out) ≡ b → Behind (asked v b) out
+      go true q = stand-at Accepted _ 0 (replyTo v status x) out (omega (arith, reply-size v status (x .address) (x .port) g, leb-true 262 (length out) q))
+      go false q = none-sent _ _ 0 out
+  at-behind g (Open v) = none-sent _ _ 0 out
+  at-behind g (Failed e) = none-sent _ _ 0 out
+
+  answer-behind : Given x → Behind (answer s status x out) out
+  unfolding answer
+  answer-behind g = at-behind g (s .stage)
 
 pub in-turn : (s : Server) → InTurn s
 in-turn s =
@@ -183,6 +226,9 @@ in-turn s =
       deliver-untouched = deliver-untouched s;
       answer-untouched = answer-untouched s;
       end-untouched = end-untouched s;
-      end-fails = end-fails s;
+      end-fails = λ p. subst (λ (c : Call). Tells (c .session) (outcome.Failed UnexpectedEof) nowhere) (sym (end-accepts s p)) (record { outcomes = refl; destinations = refl });
+      end-nine = λ p. rw (end-accepts s p);
       nothing = nothing s;
+      deliver-behind = deliver-behind s;
+      answer-behind = answer-behind s;
     }

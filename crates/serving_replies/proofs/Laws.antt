@@ -17,11 +17,10 @@ use Rattle.protocol.specs.declared.Version.the-variants.{V4, V5}
 use Rattle.protocol.specs.Bytes.{two}
 use Rattle.protocol.specs.Opening.{recordFamily}
 use Rattle.protocol.specs.Bound.{Endpoint}
-use Rattle.serving.specs.End.{ownReply5, ownReply4, boundField, dstIp, statusTo, replyTo}
+use Rattle.serving.specs.End.{ownReply5, ownReply4, endpointOf, boundField, dstIp, statusTo, replyTo}
 use Rattle.wire.specs.Written.{overwrite, Wrote}
 use Rattle.wire.proofs.Laws.{wrote-length, then}
 use Rattle.serving_replies.specs.Replies.{noAddress, sizeOf, typeOf, fourIn, fourOf, connectReply, requestReply}
-use Rattle.serving.specs.End.{endpointOf}
 
 -- nothing written
 pub wrote-none : (o : List ℕ) (at : ℕ) → at + 22 ≤ length o → Wrote o at [] at o

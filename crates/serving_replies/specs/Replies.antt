@@ -6,8 +6,7 @@ use Rattle.protocol.specs.declared.Family.{Family}
 use Rattle.protocol.specs.declared.Family.the-variants.{Four, Six}
 use Rattle.protocol.specs.declared.Record.{Record}
 use Rattle.protocol.specs.Bytes.{two}
-use Rattle.protocol.specs.Opening.{recordFamily}
-use Rattle.protocol.specs.Bound.{Endpoint, endpoint}
+use Rattle.protocol.specs.Bound.{Endpoint}
 use Rattle.serving.specs.End.{boundField, dstIp}
 
 abbrev pub noAddress : Record

@@ -1,8 +1,7 @@
 // What a stage of the proxy's end tells, and what the caller's answer and the end of the stream make of it.
 ghost use mathlib.Core.Path.{_≡_};
 ghost use Rattle.serving.specs.End as machine;
-ghost use Rattle.serving.specs.End.{stageAfter};
-ghost use Rattle.serving.specs.End.{endpointOf};
+ghost use Rattle.serving.specs.End.{endpointOf, stageAfter};
 ghost use Rattle.serving_stages.specs.Told.{outcomeAt, hasDestination, unended, endAt};
 ghost use Rattle.serving_stages.specs.Answers.{unanswered, answerAsked, answerAt, Answers};
 use protocol::Answer;
