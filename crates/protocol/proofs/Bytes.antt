@@ -2,9 +2,11 @@
 use Prim.Native.Nat.{ℕ, zero, suc, _≤_, zero-le}
 use mathlib.Core.Path.{_≡_, refl}
 use mathlib.Core.Logic.{_↔_, _⊎_, inl, inr}
+use mathlib.Core.Bool.{Bool, true, false, cond}
 use mathlib.Core.List.{List, [], _∷_, _++_, List·Memᴰ, List·Memᴰ·head, List·Memᴰ·tail, List·Memᴰ·not-nil, List·Memᴰ·cases-cons}
 use lib.ListN.{take, drop, take-append-drop}
-use Rattle.protocol.specs.Bytes.{Bytes}
+use Rattle.protocol.specs.Bytes.{Bytes, BytePieces}
+use Rattle.talk.specs.Tunnel.{Receiver, Delivery, lends, joined}
 
 member : (bs : List ℕ) → Bytes bs → (b : ℕ) → List·Memᴰ b bs → b ≤ 255
 member [] y b m = absurd (List·Memᴰ·not-nil m)
@@ -42,3 +44,13 @@ pub bytes-part : (bs : List ℕ) (from n : ℕ) → Bytes bs → Bytes (take n (
 bytes-part bs from n y =
     let d : Bytes (drop from bs) = bytes-right (take from bs) (drop from bs) (rw (take-append-drop from bs) y) in
     bytes-left (take n (drop from bs)) (drop n (drop from bs)) (rw (take-append-drop n (drop from bs)) d)
+
+-- the joined bytes of deliveries of byte strings are one, whatever takes them
+pub joined-bytes : {X A : Type 0} (K : Receiver X A) (ds : List Delivery) → BytePieces ds → Bytes (joined K ds)
+unfolding joined
+joined-bytes K [] y = λ i. zero-le
+joined-bytes K (d ∷ ds) y = bytes-join (cond (lends K d) (d .piece) []) (joined K ds) (go (lends K d)) (joined-bytes K ds (λ e m. y e (List·Memᴰ·tail m)))
+  where
+    go : (b : Bool) → Bytes (cond b (d .piece) [])
+    go true = y d (List·Memᴰ·head refl)
+    go false = λ i. zero-le

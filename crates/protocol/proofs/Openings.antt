@@ -7,13 +7,14 @@ use mathlib.Core.Option.{Option, none, some}
 use mathlib.Core.Bool.{Bool, true, false, _&&_, _||_, not, false≢true, true≢false}
 use mathlib.Core.List.{List, [], _∷_}
 use lib.ListN.{length}
-use lib.Dec.{ltb, eqb, lit<}
-use borrow.Author.Tests.{lt-ltb, ltb-true, eqb-true, not-true}
+use lib.Dec.{leb, ltb, eqb, lit<}
+use borrow.Author.Tests.{lt-ltb, ltb-true, lt-leb, leb-false, eqb-true, not-true}
 use Rattle.protocol.specs.declared.Port.{Port}
 use Rattle.protocol.specs.declared.Port.the-variants.{Missing, Given}
 use Rattle.protocol.specs.declared.Record.{Record}
 use Rattle.protocol.specs.declared.SocksError.{SocksError}
 use Rattle.protocol.specs.declared.Answer.{Answer}
+use Rattle.protocol.specs.declared.Answer.the-variants.{Accepted, Refused}
 use Rattle.protocol.specs.Numbers.{number, answerNumber}
 use Rattle.protocol.specs.Host.{strip, allAllowed, Forbidden}
 use Rattle.protocol.specs.AddressText.{Ipv6, Name}
@@ -22,6 +23,15 @@ use Rattle.protocol.specs.Requests.{Destination4, address, name, Announc
 use Rattle.protocol.specs.Opening.{V5, V4, firstRecord, firstFour, Condition, _↣_, conditions5, conditions4, First, Answers, refuse, isEmpty, isMissing, isName, isIpv6, isNone, announces, isAnnouncing, check5, check4, asked5, asked4, opening5, opening4}
 use Rattle.protocol.proofs.Hosts.{forbidden-just}
 use Rattle.protocol.proofs.Destinations.{ipv6-just, domain-is, name-just}
+
+pub clash : {e : SocksError} → Accepted ≡ Refused e → ⊥
+clash p = let z : _≡_ {A = ℕ} 0 1 = cc in omega arith
+
+pub same-error : {d e : SocksError} → Refused d ≡ Refused e → d ≡ e
+same-error p = cc
+
+pub not-long : (m n : ℕ) → not (leb m n) ≡ true ↔ (n < m)
+not-long m n = (λ q. leb-false m n (not-true (leb m n) q), λ h. rw (lt-leb m n h))
 
 pub all-passed : Answers 0 []
 all-passed = record { accepts = (λ q. tt, λ q. refl); refuses = λ k l. (λ q. omega arith, λ q. absurd q) }

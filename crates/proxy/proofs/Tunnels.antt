@@ -1,10 +1,10 @@
 -- Deliveries to the end that the calls hold are deliveries to the side's session; and F-3's promise.
-use Prim.Native.Nat.{ℕ, min, _≤_, zero-le}
+use Prim.Native.Nat.{ℕ, min, _≤_}
 use native.Mathlib.Omega.{arith}
 use mathlib.Core.Path.{_≡_, refl, ap, sym, subst, _∙_}
 use mathlib.Core.Logic.{_↔_, _⊎_, inl, inr}
 use mathlib.Core.Bool.{Bool, true, false, true≢false, cond, _&&_, _||_}
-use mathlib.Core.List.{List, [], _∷_, _++_, List·Memᴰ·head, List·Memᴰ·tail}
+use mathlib.Core.List.{List, [], _∷_, _++_}
 use lib.ListN.{length, take, drop}
 use lib.Seq.{take-append-seam, take-all}
 use lib.Dec.{leb, ltb, lit<, lit≤}
@@ -16,8 +16,8 @@ use Rattle.protocol.specs.AddressReading.{Destination, ipv4, ipv6, domain}
 use Rattle.protocol.specs.Requests.{kindOf}
 use Rattle.protocol.specs.Bound.{Endpoint, endpoint, kindIn, bytesIn, unbound}
 use Rattle.protocol.specs.Opening.{refuse}
-use Rattle.protocol.proofs.Bytes.{bytes-join}
-use Rattle.protocol.proofs.Openings.{all-passed, checked, less-just}
+use Rattle.protocol.proofs.Bytes.{joined-bytes}
+use Rattle.protocol.proofs.Openings.{clash, all-passed, checked, less-just}
 use Rattle.serving.specs.declared.Field.the-variants.{First}
 use Rattle.serving.specs.declared.Stage.{Stage}
 use Rattle.serving.specs.declared.Stage.the-variants as stage
@@ -38,10 +38,9 @@ use Rattle.proxy_calls.specs.Server.{credentialOf, textOf, setupOf, heldBytes, 
 use Rattle.proxy_calls.specs.Calls.{refusal, tooLong, setUp, takes, deliver}
 use Rattle.proxy.specs.Served.{setupFor, outcomeBy, targetBy, handedOut, receiver, tunnelOf, joinedOf, Served, AllServed}
 use Rattle.proxy.specs.Turns.{Tells, nowhere, SettingUp}
-use Rattle.proxy.proofs.Turns.{clash}
 use Rattle.talk.specs.Talk as talk
 use Rattle.talk.specs.Tunnel as side
-use Rattle.talk.specs.Tunnel.{Delivery, lends, answerTo, joined, given, refusing, accepting}
+use Rattle.talk.specs.Tunnel.{Delivery, answerTo, joined, given, refusing, accepting}
 use Rattle.talk.specs.Follow as like
 use Rattle.talk.proofs.Pieces.{pieces}
 use Rattle.talk.proofs.Follow as follow
@@ -117,15 +116,6 @@ stage-told (talk.ended (talk.done y)) x q = let e : y ≡ x = cc in rw e
 stage-told (talk.ended (talk.failed n)) x q = let z : _≡_ {A = ℕ} 0 1 = cc in absurd (omega arith)
 
 -- of joined bytes that are bytes, the destination has at most 1,014, and so it is handed out whole
-joined-bytes : (ds : List Delivery) → BytePieces ds → Bytes (joinedOf ds)
-unfolding joined
-joined-bytes [] y = λ i. zero-le
-joined-bytes (d ∷ ds) y = bytes-join (cond (lends receiver d) (d .piece) []) (joinedOf ds) (go (lends receiver d)) (joined-bytes ds (λ e m. y e (List·Memᴰ·tail m)))
-  where
-    go : (b : Bool) → Bytes (cond b (d .piece) [])
-    go true = y d (List·Memᴰ·head refl)
-    go false = λ i. zero-le
-
 small-target : (c : Setup) (bs : List ℕ) → Bytes bs → length (bytesIn (targetBy (machine c bs .standing) .address)) ≤ 1014
 small-target c bs y = rw (standing-feed c bs) (go (talk.feed (server c) (talkAt c First) bs .session) refl)
   where
@@ -236,7 +226,7 @@ module _ (authenticates : Bool) (user password : List ℕ) where
         sent-as = f .sends;
         outcome-as = f .outcomes;
         asked-in = f .stages;
-        destination-as = f .targets ∙ target-whole (targetBy (machine asked-for (joinedOf ds) .standing)) (small-target asked-for (joinedOf ds) (joined-bytes ds y));
+        destination-as = f .targets ∙ target-whole (targetBy (machine asked-for (joinedOf ds) .standing)) (small-target asked-for (joinedOf ds) (joined-bytes receiver ds y));
         count-as = f .count;
         rests-are = rw (f .count) (f .rest);
         alike = λ ds′ e.

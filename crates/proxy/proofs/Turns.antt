@@ -7,8 +7,7 @@ use mathlib.Core.Bool.{Bool, true, false, true≢false, cond, not}
 use mathlib.Core.List.{List, [], _∷_, _++_}
 use lib.ListN.{length, length-append}
 use lib.Dec.{leb, lit<}
-use borrow.Author.Tests.{lt-leb, leb-true, leb-false, not-true}
-use Rattle.protocol.specs.declared.SocksError.{SocksError}
+use borrow.Author.Tests.{leb-true}
 use Rattle.protocol.specs.declared.SocksError.the-variants.{ShortOutput, UnexpectedEof, Settled}
 use Rattle.protocol.specs.declared.Answer.the-variants.{Accepted, Refused}
 use Rattle.protocol.specs.declared.Version.{Version}
@@ -18,7 +17,7 @@ use Rattle.protocol.specs.Numbers.{answerNumber}
 use Rattle.protocol.specs.AddressReading.{Destination, ipv4, ipv6, domain}
 use Rattle.protocol.specs.Bound.{Endpoint, endpoint}
 use Rattle.protocol.specs.Opening.{_↣_, Answers, refuse}
-use Rattle.protocol.proofs.Openings.{all-passed, checked}
+use Rattle.protocol.proofs.Openings.{clash, same-error, not-long, all-passed, checked}
 use Rattle.serving.specs.declared.Stage.{Stage}
 use Rattle.serving.specs.declared.Stage.the-variants.{Awaiting, Asked, Open, Failed}
 use Rattle.serving.specs.End.{replyTo, stageAfter}
@@ -35,15 +34,6 @@ use Rattle.proxy.specs.Turns.{Given, Tells, nowhere, Untouched, InTurn}
 use Rattle.talk.specs.Talk.{failed, ended, onward, isOver}
 use Rattle.talk.specs.Tunnel.{Behind}
 use Rattle.talk.proofs.Sends.{stand-at, none-sent}
-
-pub clash : {e : SocksError} → Accepted ≡ Refused e → ⊥
-clash p = let z : _≡_ {A = ℕ} 0 1 = cc in omega arith
-
-same-error : {d e : SocksError} → Refused d ≡ Refused e → d ≡ e
-same-error p = cc
-
-not-long : (m n : ℕ) → not (leb m n) ≡ true ↔ (n < m)
-not-long m n = (λ q. leb-false m n (not-true (leb m n) q), λ h. rw (lt-leb m n h))
 
 -- ---- it is over exactly when it does not wait, and asked exactly when the stage says so
 

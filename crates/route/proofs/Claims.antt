@@ -1,9 +1,8 @@
 -- What F-5's promise and the claims on a route's single calls come to. Each of their fields is used here.
-use Prim.Native.Nat.{ℕ, _+_, _%_, _^_, _≤_, _<_}
+use Prim.Native.Nat.{ℕ, _+_, _≤_, _<_}
 use native.Mathlib.Omega.{arith}
-use mathlib.Core.Path.{_≡_, refl, ap, sym, _∙_}
-use mathlib.Core.Logic.{inl, inr}
-use mathlib.Core.List.{List, [], _∷_, _++_}
+use mathlib.Core.Path.{_≡_, ap, sym, _∙_}
+use mathlib.Core.List.{List, [], _++_}
 use lib.ListN.{length, drop}
 use lib.Seq.{drop-append-seam}
 use lib.Dec.{lit<}
@@ -20,7 +19,7 @@ use Rattle.protocol.proofs.Limits.{number-accepted}
 use Rattle.socks.specs.Turns.{noAddress}
 use Rattle.socks.proofs.Claims.{holds, holds-second}
 use Rattle.routing.specs.Route as routing
-use Rattle.routing.specs.Route.{roomFor, openings, conditions, machines, usedInTurn, Sequences, RepliedInTurn}
+use Rattle.routing.specs.Route.{roomFor, openings, conditions, machines, usedInTurn, Sequences}
 use Rattle.route_calls.specs.declared.Route.{Route}
 use Rattle.route_calls.specs.Calls.{Call, outcome, bound, opening, deliver, end}
 use Rattle.route.specs.Routed.{tunnelOf, joinedOf, attemptsInTurn, lending, Routed}

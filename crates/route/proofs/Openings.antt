@@ -19,7 +19,7 @@ use Rattle.session.specs.Calls.{keptBy}
 use Rattle.session.specs.Session.{view}
 use Rattle.openings.proofs.KeptBy.{kept-parts, kept-by}
 use Rattle.protocol.specs.Bytes.{BytePieces}
-use Rattle.socks.proofs.Refusals.{clash}
+use Rattle.protocol.proofs.Openings.{clash}
 use Rattle.relaying.specs.declared.Hop as relaying
 use Rattle.planning.specs.Plan.{hopFor, hopsFor, bytesFor}
 use Rattle.routing.specs.Route as routing

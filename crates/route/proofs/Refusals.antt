@@ -8,7 +8,7 @@ use Rattle.protocol.specs.declared.Answer as code
 use Rattle.protocol.specs.declared.Answer.the-variants.{Accepted, Refused}
 use Rattle.protocol.specs.Opening.{Opening}
 use Rattle.session.specs.Calls as session
-use Rattle.socks.proofs.Refusals.{clash}
+use Rattle.protocol.proofs.Openings.{clash}
 use Rattle.routing.specs.Route as routing
 use Rattle.routing.specs.Route.{asked, openingFor, openings, roomFor, check}
 use Rattle.routing.proofs.Asked.{asked-each}

@@ -3,22 +3,21 @@ use Prim.Native.Nat.{ℕ, _%_, _^_, _≤_, min}
 use native.Mathlib.Omega.{arith}
 use mathlib.Core.Path.{_≡_, refl, ap, sym, subst, _∙_}
 use mathlib.Core.Bool.{Bool, true, false, cond}
-use mathlib.Core.List.{List, [], _∷_, _++_, map}
+use mathlib.Core.List.{List, [], _∷_, map}
 use lib.ListN.{length, drop}
 use lib.Seq.{take-append-seam}
 use lib.Dec.{leb}
 use Rattle.protocol.specs.declared.SocksError.the-variants.{ShortOutput, Settled}
 use Rattle.protocol.specs.declared.Reply.{Reply}
 use Rattle.protocol.specs.declared.Outcome.the-variants as Out
-use Rattle.protocol.specs.Bytes.{BytePieces, Bytes}
+use Rattle.protocol.specs.Bytes.{BytePieces}
 use Rattle.protocol.specs.Bound.{addressOf}
 use Rattle.protocol.specs.Opening.{Opening}
 use Rattle.protocol.specs.Machine.{Machine}
 use Rattle.protocol.specs.Client as client
+use Rattle.protocol.proofs.Bytes.{joined-bytes}
 use Rattle.sending.specs.Stages.{SideSession}
 use Rattle.session.specs.Session.{view}
-use Rattle.socks.specs.Demand3 as sessions
-use Rattle.socks.proofs.Tunnels as socks
 use Rattle.relaying.specs.declared.Hop as relaying
 use Rattle.relaying.specs.Relay.{Relay, relayed}
 use Rattle.routing.specs.Route.{roomFor, machines, usedInTurn}
@@ -168,21 +167,12 @@ fed o os r sent b ds =
       rest = w .rest ∙ ap (λ (k : ℕ). drop k bs) c;
     }
 
--- the joined bytes are bytes, as a session's are
-joined-any : (room : ℕ) (ds : List Delivery) → joined (sessions.receiver room) ds ≡ joined (receiver room) ds
-unfolding joined
-joined-any room [] = refl
-joined-any room (d ∷ ds) = ap (λ (bs : List ℕ). cond (leb room (length (d .output))) (d .piece) [] ++ bs) (joined-any room ds)
-
-pub joined-bytes : (os : List Opening) (ds : List Delivery) → BytePieces ds → Bytes (joinedOf os ds)
-joined-bytes os ds y = subst Bytes (joined-any (roomFor (length os)) ds) (socks.joined-bytes (roomFor (length os)) ds y)
-
 -- of a route with an opening, as soon as its attempts are known
 pub routed-with : (o : Opening) (os : List Opening) (r : Route) (sent : List ℕ) → Begun (o ∷ os) r sent → (ds : List Delivery) → BytePieces ds
     → tunnelOf (o ∷ os) r sent ds .session .attempts ≡ attemptsInTurn (o ∷ os) (lending (o ∷ os) ds) % 2 ^ 64
     → Routed (o ∷ os) r sent ds
 routed-with o os r sent b ds pieces-are attempts =
-    let y = joined-bytes (o ∷ os) ds pieces-are in
+    let y = joined-bytes (receiver (roomFor (length (o ∷ os)))) ds pieces-are in
     let f = fed o os r sent b ds in
     let bs = joinedOf (o ∷ os) ds in
     record {

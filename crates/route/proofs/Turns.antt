@@ -16,7 +16,7 @@ use Rattle.protocol.specs.declared.Outcome.the-variants as outcomes
 use Rattle.protocol.specs.declared.Bound.{Bound}
 use Rattle.protocol.specs.Numbers.{answerNumber, outcomeNumber}
 use Rattle.protocol.specs.Opening.{_↣_, Answers, refuse, Opening, firstReply}
-use Rattle.protocol.proofs.Openings.{all-passed, checked}
+use Rattle.protocol.proofs.Openings.{clash, same-error, not-long, all-passed, checked}
 use Rattle.protocol.proofs.Limits.{answer-not-11, outcome-not-11}
 use Rattle.sending.specs.declared.Requests.{Requests}
 use Rattle.sending.specs.declared.Stage.{Stage}
@@ -29,8 +29,7 @@ use Rattle.session.specs.Session.{packed, view}
 use Rattle.session.specs.Calls as session-calls
 use Rattle.session.specs.Calls.{keptBy}
 use Rattle.socks.specs.Turns.{noAddress}
-use Rattle.socks.proofs.Refusals.{clash, same-error}
-use Rattle.socks.proofs.Turns.{over-just, not-long, sendsAt, first-room, deliver-sends}
+use Rattle.socks.proofs.Turns.{over-just, sendsAt, first-room, deliver-sends}
 use Rattle.relaying.specs.declared.Hop.{Hop}
 use Rattle.relaying.specs.Relay.{hopAt, requestsAt, goesAt, begunAt, Relay, handed, alone, handingOn, relayed}
 use Rattle.routing.specs.Route as routing

@@ -16,6 +16,7 @@ use Rattle.protocol.specs.Client as client
 use Rattle.protocol.specs.Client.{Waits}
 use Rattle.protocol.proofs.Tests.{both}
 use Rattle.protocol.proofs.Client.{client-lawful, begun-shaped, machine-feed, decided-feed, decided-three}
+use Rattle.protocol.proofs.Bytes.{joined-bytes}
 use Rattle.protocol.proofs.Limits.{limits5, limits4}
 use Rattle.sending.specs.Parts.{requestsOf}
 use Rattle.sending.specs.Stages.{SideSession, holdsOf}
@@ -26,9 +27,9 @@ use Rattle.session.specs.Calls.{Call, refusal, takes, deliver, start, preparedB
 use Rattle.socks.specs.Demand3.{receiver}
 use Rattle.protocol.specs.Bytes.{BytePieces}
 use Rattle.socks.specs.Attempts.{oneIf, isWaiting, isAccepted, hasByte, lendsFor, counts, attemptsAt, attemptsOf, acceptedIn, Effort, Tried}
-use Rattle.socks.proofs.Refusals.{clash}
+use Rattle.protocol.proofs.Openings.{clash}
 use Rattle.socks.proofs.InTwo.{start-begins}
-use Rattle.socks.proofs.Tunnels.{Stands, asks-same, step, joined-bytes}
+use Rattle.socks.proofs.Tunnels.{Stands, asks-same, step}
 use Rattle.socks.proofs.Openings.{begins-stands}
 use Rattle.talk.specs.Talk as talk
 use Rattle.talk.specs.Talk.{Side, SessionOf, waiting, ended, isOver, onward, feed}
@@ -219,7 +220,7 @@ module _ (o : Opening) where
       record {
         attempts-are = rw k at e;
         attempts-few = omega (arith, few-on ds s [] t);
-        held-few = rw (stands-all ds s [] t .exact) (begun-held o (joined (receiver (deliveryRoom o)) ds) (joined-bytes (deliveryRoom o) ds y));
+        held-few = rw (stands-all ds s [] t .exact) (begun-held o (joined (receiver (deliveryRoom o)) ds) (joined-bytes (receiver (deliveryRoom o)) ds y));
       }
 
   tried : (x : Answer) → (x ≡ Accepted → Limits o) → Tried (preparedBy x o) o

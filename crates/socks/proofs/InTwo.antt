@@ -18,7 +18,7 @@ use Rattle.protocol.specs.Opening.{V5, V4, Condition, _↣_, conditions5, condi
 use Rattle.protocol.specs.Client as client
 use Rattle.protocol.specs.Machine.{Machine, machine}
 use Rattle.protocol.proofs.Client.{machine-feed}
-use Rattle.protocol.proofs.Openings.{all-passed, checked, less-just, check5-just, check4-just}
+use Rattle.protocol.proofs.Openings.{clash, same-error, not-long, all-passed, checked, less-just, check5-just, check4-just}
 use Rattle.protocol.proofs.Limits.{limits5, limits4, number-is}
 use Rattle.protocol.proofs.Claims.{answers-behind, answers-before}
 use Rattle.sending.specs.Parts.{firstOf}
@@ -26,8 +26,6 @@ use Rattle.sending.specs.Stages.{SideFed}
 use Rattle.session.specs.Calls.{Call, refusal, keptBy, preparedFor, emptySession, preparedBy, prepare5, prepare4, starts, start}
 use Rattle.openings.proofs.KeptBy.{kept-parts}
 use Rattle.socks.specs.InTwo.{begins, openBy, open5, open4, inTwo, InTwo}
-use Rattle.socks.proofs.Refusals.{clash, same-error}
-use Rattle.socks.proofs.Turns.{not-long}
 use Rattle.talk.specs.Talk.{feed, waiting}
 use Rattle.talk.proofs.Feed.{same-fed}
 

@@ -23,7 +23,7 @@ use Rattle.sending.specs.Stages.{SideSession, SideFed, holdsOf}
 use Rattle.socks.specs.InTwo.{begins}
 use Rattle.socks.specs.Demand3.{receiver, Tunnelled}
 use Rattle.socks.specs.Turns.{InTurn, Asking}
-use Rattle.socks.proofs.Refusals.{clash}
+use Rattle.protocol.proofs.Openings.{clash}
 use Rattle.socks.proofs.InTwo.{begun-fed, start-begins}
 use Rattle.socks.proofs.Turns.{start-accepts, in-turn}
 use Rattle.socks.proofs.Tunnels.{Stands, asks-same, step, Begun, demand3}

@@ -1,6 +1,5 @@
 -- Demand 1: what preparing answers and returns; and 11 is met by no call.
 use Prim.Native.Nat.{ℕ}
-use native.Mathlib.Omega.{arith}
 use mathlib.Core.Path.{_≡_, refl, ap, sym}
 use mathlib.Core.Bool.{true, false}
 use mathlib.Core.List.{List}
@@ -14,18 +13,12 @@ use Rattle.protocol.specs.AddressText.{Name}
 use Rattle.protocol.specs.Numbers.{answerNumber, outcomeNumber}
 use Rattle.protocol.specs.Opening.{V5, V4, Condition, conditions5, conditions4, Answers, check5, check4, Opening, opening5, opening4}
 use Rattle.protocol.proofs.Limits.{answer-not-11, outcome-not-11}
-use Rattle.protocol.proofs.Openings.{check5-just, check4-just, lookup5, lookup4}
+use Rattle.protocol.proofs.Openings.{clash, same-error, check5-just, check4-just, lookup5, lookup4}
 use Rattle.session.specs.declared.Session.{Session}
 use Rattle.session.specs.declared.Prepared.{Prepared}
 use Rattle.session.specs.Session.{outcome}
 use Rattle.session.specs.Calls.{Call, Without, emptySession, preparedBy, prepare5, prepare4, start, deliver, end}
 use Rattle.socks.specs.Turns.{Tells, noAddress, Preparing}
-
-pub clash : {e : SocksError} → Accepted ≡ Refused e → ⊥
-clash p = let z : _≡_ {A = ℕ} 0 1 = cc in omega arith
-
-pub same-error : {d e : SocksError} → Refused d ≡ Refused e → d ≡ e
-same-error p = cc
 
 -- ---- preparing: it answers as its checks do, and returns a session that waits, or the empty one, failed with the error
 

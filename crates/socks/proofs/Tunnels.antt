@@ -1,15 +1,15 @@
 -- Deliveries to the session that the calls hold are deliveries to the side's session; and demand 3.
-use Prim.Native.Nat.{ℕ, zero-le}
+use Prim.Native.Nat.{ℕ}
 use native.Mathlib.Omega.{arith}
 use mathlib.Core.Path.{_≡_, refl, ap, sym, subst, _∙_}
 use mathlib.Core.Bool.{Bool, true, false, cond, not, true≢false}
-use mathlib.Core.List.{List, [], _∷_, _++_, List·Memᴰ·head, List·Memᴰ·tail}
+use mathlib.Core.List.{List, [], _∷_, _++_}
 use lib.ListN.{length, take, drop}
 use lib.Seq.{take-append-seam}
 use lib.Dec.{leb}
 use Rattle.protocol.specs.declared.SocksError.the-variants.{ShortOutput, Settled, OutOfOrder}
 use Rattle.protocol.specs.declared.Bound.{Bound}
-use Rattle.protocol.specs.Bytes.{Bytes, BytePieces}
+use Rattle.protocol.specs.Bytes.{BytePieces}
 use Rattle.protocol.specs.AddressReading.{Destination, ipv4, ipv6, domain}
 use Rattle.protocol.specs.Requests.{kindOf}
 use Rattle.protocol.specs.Bound.{endpoint, kindIn, bytesIn, addressOf}
@@ -17,7 +17,7 @@ use Rattle.protocol.specs.Opening.{Opening, deliveryRoom}
 use Rattle.protocol.specs.Machine.{Machine, machine, used}
 use Rattle.protocol.specs.Client as client
 use Rattle.protocol.proofs.Client.{client-lawful, begun-shaped, machine-feed, used-feed}
-use Rattle.protocol.proofs.Bytes.{bytes-join}
+use Rattle.protocol.proofs.Bytes.{joined-bytes}
 use Rattle.protocol.specs.Client.{Waits}
 use Rattle.protocol.proofs.Rooms.{onward-waits}
 use Rattle.protocol.proofs.Sequences.{open-just, open-one}
@@ -31,7 +31,7 @@ use Rattle.session.specs.Calls.{refusal, takes, deliver}
 use Rattle.socks.specs.Demand3.{receiver, Alike, tunnelOf, joinedOf, Demand3}
 use Rattle.talk.specs.Talk as talk
 use Rattle.talk.specs.Tunnel as side
-use Rattle.talk.specs.Tunnel.{Delivery, lends, answerTo, joined, tunnel, given, refusing, accepting}
+use Rattle.talk.specs.Tunnel.{Delivery, answerTo, joined, tunnel, given, refusing, accepting}
 use Rattle.talk.specs.Follow as like
 use Rattle.talk.proofs.Pieces.{pieces}
 use Rattle.talk.proofs.Follow as follow
@@ -141,19 +141,9 @@ fed o s sent b ds =
       rest = w .rest ∙ p .rest ∙ rw (← j, ← w .count, c);
     }
 
--- the joined bytes are bytes
-pub joined-bytes : (r : ℕ) (ds : List Delivery) → BytePieces ds → Bytes (joined (receiver r) ds)
-unfolding joined
-joined-bytes r [] y = λ i. zero-le
-joined-bytes r (d ∷ ds) y = bytes-join (cond (lends (receiver r) d) (d .piece) []) (joined (receiver r) ds) (go (lends (receiver r) d)) (joined-bytes r ds (λ e m. y e (List·Memᴰ·tail m)))
-  where
-    go : (b : Bool) → Bytes (cond b (d .piece) [])
-    go true = y d (List·Memᴰ·head refl)
-    go false = λ i. zero-le
-
 pub demand3 : (o : Opening) (s : Session) (sent : List ℕ) → Begun o s sent → (ds : List Delivery) → BytePieces ds → Demand3 o s sent ds
 demand3 o s sent b ds pieces-are =
-    let y = joined-bytes (deliveryRoom o) ds pieces-are in
+    let y = joined-bytes (receiver (deliveryRoom o)) ds pieces-are in
     let f = fed o s sent b ds in
     let bs = joinedOf o ds in
     record {

@@ -8,7 +8,7 @@ use mathlib.Core.List.{List, [], _∷_, _++_}
 use lib.ListN.{length, drop, length-append, length-drop, length-take}
 use lib.Seq.{drop-append-seam}
 use lib.Dec.{leb, lit<}
-use borrow.Author.Tests.{lt-leb, leb-true, leb-false, not-true}
+use borrow.Author.Tests.{leb-true}
 use Rattle.protocol.specs.declared.Answer.the-variants.{Accepted, Refused}
 use Rattle.protocol.specs.declared.Bound.{Bound}
 use Rattle.protocol.specs.declared.Outcome.the-variants as outcomes
@@ -19,7 +19,7 @@ use Rattle.protocol.specs.declared.SocksError.the-variants.{ShortOutput, Unexpe
 use Rattle.protocol.specs.Numbers.{answerNumber}
 use Rattle.protocol.specs.Opening.{_↣_, Answers, refuse}
 use Rattle.protocol.specs.Client.{client, outcomeOf}
-use Rattle.protocol.proofs.Openings.{all-passed, checked}
+use Rattle.protocol.proofs.Openings.{clash, same-error, not-long, all-passed, checked}
 use Rattle.protocol.proofs.Rooms.{sendsMost, asks-more, onward-sends}
 use Rattle.bound_text.specs.Text.{boundText}
 use Rattle.bound_text.specs.Written.{TextCall, unwritten, writeText}
@@ -38,7 +38,6 @@ use Rattle.session.specs.Session.{sideOf, view, heldBytes, packed, outcome, bou
 use Rattle.session.proofs.Deliveries.{is-over}
 use Rattle.session.specs.Calls.{Call, refusal, starts, start, takes, deliver, end}
 use Rattle.socks.specs.Turns.{Tells, noAddress, Untouched, InTurn, AnyInTurn}
-use Rattle.socks.proofs.Refusals.{clash, same-error}
 use Rattle.talk.specs.Talk as talk
 use Rattle.talk.specs.Talk.{waiting, ended, done, failed, onward, isOver}
 use Rattle.talk.specs.Tunnel.{Behind}
@@ -55,9 +54,6 @@ pub open-just : (stage : Stage) (b : Bound) (h : List ℕ) → not (isOpen stage
 open-just (Awaiting e) b h = (λ q r. let z : _≡_ {A = ℕ} 0 1 = cc in absurd (omega arith), λ f. refl)
 open-just Open b h = (λ q. absurd (true≢false (sym q)), λ f. absurd (f refl))
 open-just (Failed x) b h = (λ q r. let z : _≡_ {A = ℕ} 0 1 = cc in absurd (omega arith), λ f. refl)
-
-pub not-long : (m n : ℕ) → not (leb m n) ≡ true ↔ (n < m)
-not-long m n = (λ q. leb-false m n (not-true (leb m n) q), λ h. rw (lt-leb m n h))
 
 not-just : (b : Bool) → not b ≡ true ↔ (b ≡ false)
 not-just true = (λ q. absurd (true≢false (sym q)), λ q. absurd (true≢false q))
