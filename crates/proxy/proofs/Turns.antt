@@ -143,6 +143,15 @@ module _ (s : Server) where
   unfolding end
   end-accepts = accepts s [] ending refl (isOver (view s)) true
 
+-- an end uses and sends nothing
+pub end-counts : (s : Server) → (end s .used ≡ 0) × (end s .sent ≡ 0)
+unfolding end
+end-counts s = go (isOver (view s))
+  where
+    go : (b : Bool) → (cond b (refusal Settled s []) (ending s) .used ≡ 0) × (cond b (refusal Settled s []) (ending s) .sent ≡ 0)
+    go true = (refl, refl)
+    go false = (refl, refl)
+
 -- ---- the caller's answer, by the stage
 
 reply-size : (v : Version) (status : ℕ) (d : Destination) (port : ℕ) → Given (endpoint d port) → length (replyTo v status (endpoint d port)) ≤ 22
@@ -192,6 +201,11 @@ module _ (s : Server) (status : ℕ) (x : Endpoint) (out : List ℕ) where
   answer-untouched : Untouched (answer s status x out) s out
   unfolding answer
   answer-untouched = at-untouched (s .stage)
+
+  -- it uses nothing
+  pub answer-used : answer s status x out .used ≡ 0
+  unfolding answer
+  answer-used = refl
 
   at-behind : Given x → (t : Stage) → Behind (at t) out
   at-behind g (Awaiting f) = none-sent _ _ 0 out

@@ -4,20 +4,20 @@ use native.Mathlib.Omega.{arith}
 use mathlib.Core.Path.{_≡_, refl, ap, sym, _∙_}
 use mathlib.Core.List.{List}
 use lib.ListN.{drop}
-use Rattle.protocol.specs.Bound.{Endpoint}
-use Rattle.protocol.specs.Numbers.{answerNumber}
+use Rattle.protocol.specs.declared.SocksError.{SocksError}
+use Rattle.protocol.specs.Bytes.{BytePieces}
+use Rattle.protocol.specs.Numbers.{number, status, answerNumber}
 use Rattle.protocol.proofs.Limits.{number-accepted}
 use Rattle.serving.specs.declared.Stage.{Stage}
 use Rattle.serving.specs.declared.Stage.the-variants.{Awaiting, Asked, Open, Failed}
-use Rattle.serving.specs.End.{Setup, machine}
-use Rattle.serving.specs.Side as side
-use Rattle.judging.specs.Due.{sessionAt}
-use Rattle.destinations.specs.Last.{targetAs}
+use Rattle.serving.specs.End as plain
+use Rattle.serving.specs.End.{Setup, Standing, waits, asks, fails, machine}
+use Rattle.serving_stages.specs.declared.Outcome.the-variants as outcome
 use Rattle.serving_stages.specs.Told.{outcomeAt}
 use Rattle.proxy_calls.specs.declared.Server.{Server}
-use Rattle.proxy_calls.specs.Server.{heldBytes, askedFor, destination}
-use Rattle.proxy_calls.specs.Calls.{setUp, deliver, answer, end, receiver}
-use Rattle.proxy.specs.Served.{outcomeBy, targetBy, Served}
+use Rattle.proxy_calls.specs.Server.{destination}
+use Rattle.proxy_calls.specs.Calls.{setUp, deliver, answer, end}
+use Rattle.proxy.specs.Served.{outcomeBy, targetBy, handedOut, receiver, joinedOf, Served}
 use Rattle.proxy.proofs.Tunnels.{all-served}
 use Rattle.raw_numbers.specs.Numbers.{truth}
 use Rattle.raw_errors.specs.Errors.{errorOf, errorAmong}
@@ -30,19 +30,29 @@ use Rattle.raw_tunnel.specs.Served.{returned, rawStanding, rawTarget, st
 use Rattle.raw_tunnel.proofs.Carried.{Carried, carries, lends-as}
 use Rattle.talk.specs.Tunnel.{Delivery, answerTo, after}
 
--- an end that was not answered stands, in numbers, as the side's session
-standing-told : (t : Stage) (x : Endpoint) (h : List ℕ) → outcomeAt t ≡ outcomeBy (side.standingOf (sessionAt t x h))
-    → standingOf t ≡ standingNumbers (side.standingOf (sessionAt t x h))
-standing-told (Awaiting f) x h q = refl
-standing-told (Asked v) x h q = refl
-standing-told (Open v) x h q = let z : _≡_ {A = ℕ} 0 1 = cc in absurd (omega arith)
-standing-told (Failed e) x h q = refl
+-- an end that was not answered stands, in numbers, as the plain machine
+pub waiting-told : (t : Stage) → outcomeAt t ≡ outcome.Waiting → standingOf t ≡ record { state = 0; number = 0; status = 0 }
+waiting-told (Awaiting f) q = refl
+waiting-told (Asked v) q = let z : _≡_ {A = ℕ} 0 1 = cc in absurd (omega arith)
+waiting-told (Open v) q = let z : _≡_ {A = ℕ} 0 1 = cc in absurd (omega arith)
+waiting-told (Failed e) q = let z : _≡_ {A = ℕ} 0 1 = cc in absurd (omega arith)
+
+pub failed-told : (t : Stage) (e : SocksError) → outcomeAt t ≡ outcome.Failed e → standingOf t ≡ record { state = 2; number = number e; status = status e }
+failed-told (Awaiting f) e q = let z : _≡_ {A = ℕ} 0 1 = cc in absurd (omega arith)
+failed-told (Asked v) e q = let z : _≡_ {A = ℕ} 0 1 = cc in absurd (omega arith)
+failed-told (Open v) e q = let z : _≡_ {A = ℕ} 0 1 = cc in absurd (omega arith)
+failed-told (Failed d) e q = let z : d ≡ e = cc in ap (λ (x : SocksError). record { state = 2; number = number x; status = status x }) z
+
+standing-told : (t : Stage) (z : Standing) → outcomeAt t ≡ outcomeBy z → ((x : plain.Asked) → z ≡ asks x → t ≡ Asked (x .version)) → standingOf t ≡ standingNumbers z
+standing-told t waits q f = waiting-told t q
+standing-told t (asks x) q f = ap standingOf (f x refl)
+standing-told t (fails e) q f = failed-told t e q
 
 same : (s : Server) (d : Delivery) → answerTo raw.receiver (rawOf s) d ≡ returned (answerTo receiver s d)
 same s d = ap (λ (t : Server). returned (deliver t (d .piece) (d .output))) (server-back s)
 
-module _ (c : Setup) (s : Server) (served : (ds : List Delivery) → Served c s ds) where
-  module _ (ds : List Delivery) (l : Lent ds) where
+module _ (c : Setup) (s : Server) (served : (ds : List Delivery) → BytePieces ds → Served c s ds) where
+  module _ (ds : List Delivery) (y : BytePieces ds) (l : Lent ds) where
     abbrev e : Server
     e = after receiver s ds
 
@@ -51,31 +61,30 @@ module _ (c : Setup) (s : Server) (served : (ds : List Delivery) → Served c s 
 
     stands : rawStanding (after raw.receiver (rawOf s) ds) ≡ standingNumbers (machine c (raw.joinedOf ds) .standing)
     stands =
-        let h = served ds in
+        let h = served ds y in
         ap rawStanding (carried .session) ∙ ap (λ (t : Server). standingOf (t .stage)) (server-back e)
-        ∙ standing-told (e .stage) (askedFor e) (heldBytes e) (h .outcome-as ∙ ap outcomeBy (sym (h .standing-as)))
-        ∙ ap standingNumbers (h .standing-as) ∙ rw (carried .joins)
+        ∙ standing-told (e .stage) (machine c (joinedOf ds) .standing) (h .outcome-as) (h .asked-in) ∙ rw (carried .joins)
 
-    targets : rawTarget (after raw.receiver (rawOf s) ds) ≡ targetOf (targetAs (targetBy (machine c (raw.joinedOf ds) .standing)))
+    targets : rawTarget (after raw.receiver (rawOf s) ds) ≡ targetOf (handedOut (targetBy (machine c (raw.joinedOf ds) .standing)))
     targets =
-        ap rawTarget (carried .session) ∙ ap (λ (t : Server). targetOf (destination t)) (server-back e) ∙ ap targetOf (served ds .destination-as) ∙ rw (carried .joins)
+        ap rawTarget (carried .session) ∙ ap (λ (t : Server). targetOf (destination t)) (server-back e) ∙ ap targetOf (served ds y .destination-as) ∙ rw (carried .joins)
 
-  raw-served : (ds : List Delivery) → Lent ds → RawServes c (rawOf s) ds
-  raw-served ds l =
-      let h = served ds in
-      let w = carried ds l in
+  raw-served : (ds : List Delivery) → BytePieces ds → Lent ds → RawServes c (rawOf s) ds
+  raw-served ds y l =
+      let h = served ds y in
+      let w = carried ds y l in
       record {
         sent-as = rw (w .joins, w .sent) (h .sent-as);
-        standing-as = stands ds l;
-        destination-as = targets ds l;
+        standing-as = stands ds y l;
+        destination-as = targets ds y l;
         count-as = rw (w .joins, w .count) (h .count-as);
         rests-are = w .rest ∙ h .rests-are ∙ (λ i. drop (sym (w .count) i) (sym (w .joins) i));
-        alike = λ ds′ l′ q.
-            let w′ = carried ds′ l′ in
+        alike = λ ds′ y′ l′ q.
+            let w′ = carried ds′ y′ l′ in
             let a = h .alike ds′ (sym (w′ .joins) ∙ q ∙ w .joins) in
             record {
-              standings = stands ds′ l′ ∙ rw q (sym (stands ds l));
-              targets = targets ds′ l′ ∙ rw q (sym (targets ds l));
+              standings = stands ds′ y′ l′ ∙ rw q (sym (stands ds y l));
+              targets = targets ds′ y′ l′ ∙ rw q (sym (targets ds y l));
               sent = rw (w′ .sent, w .sent) (a .sent);
               count = w′ .count ∙ a .count ∙ sym (w .count);
               rest = w′ .rest ∙ a .rest ∙ sym (w .rest);

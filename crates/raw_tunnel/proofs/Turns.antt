@@ -48,7 +48,7 @@ over-just (waiting e h) = (λ q. absurd (true≢false (sym q)), λ n. absurd (n 
 over-just (ended (done x)) = (λ q e. omega arith, λ n. refl)
 over-just (ended (failed e)) = (λ q e. omega arith, λ n. refl)
 
-started-just : (n : ℕ) → truth n ≡ true ↔ (n ≡ 0 → ⊥)
+pub started-just : (n : ℕ) → truth n ≡ true ↔ (n ≡ 0 → ⊥)
 unfolding truth
 started-just zero = (λ q. absurd (true≢false (sym q)), λ n. absurd (n refl))
 started-just (suc n) = rw (ne-eqb (suc n) 0 (λ e. omega arith)) (λ q e. omega arith, λ q. refl)
@@ -59,20 +59,40 @@ unstarted-just zero = (λ q. refl, λ q. refl)
 unstarted-just (suc n) = rw (ne-eqb (suc n) 0 (λ e. omega arith)) (λ q. absurd (true≢false (sym q)), λ e. absurd (omega arith))
 
 -- a condition told in other words
-same-conditions : {n m : ℕ} {P Q : Type 0} {cs : List Condition} → P ↔ Q → Answers n (((Q → ⊥) ↣ m) ∷ cs) → Answers n (((P → ⊥) ↣ m) ∷ cs)
-same-conditions {n} {m} {P} {Q} {cs} e a =
+pub same-first : {n m : ℕ} {P Q : Type 0} {cs : List Condition} → P ↔ Q → Answers n ((Q ↣ m) ∷ cs) → Answers n ((P ↣ m) ∷ cs)
+same-first {n} {m} {P} {Q} {cs} e a =
     record {
-      accepts = (λ q. let z = a .accepts .0 q in (λ f. z .0 (λ y. f (e .1 y)), z .1), λ z. a .accepts .1 (λ f. z .0 (λ x. f (e .0 x)), z .1));
+      accepts = (λ q. let z = a .accepts .0 q in (λ x. z .0 (e .0 x), z .1), λ z. a .accepts .1 (λ y. z .0 (e .1 y), z .1));
       refuses = λ k h. (λ q. to k (a .refuses k h .0 q), λ f. a .refuses k h .1 (back k f));
     }
   where
-    to : (k : ℕ) → First k (((Q → ⊥) ↣ m) ∷ cs) → First k (((P → ⊥) ↣ m) ∷ cs)
-    to k (inl (f, q)) = inl (λ x. f (e .0 x), q)
-    to k (inr (f, r)) = inr (λ g. f (λ y. g (e .1 y)), r)
+    to : (k : ℕ) → First k ((Q ↣ m) ∷ cs) → First k ((P ↣ m) ∷ cs)
+    to k (inl (y, q)) = inl (e .1 y, q)
+    to k (inr (f, r)) = inr (λ x. f (e .0 x), r)
 
-    back : (k : ℕ) → First k (((P → ⊥) ↣ m) ∷ cs) → First k (((Q → ⊥) ↣ m) ∷ cs)
-    back k (inl (f, q)) = inl (λ y. f (e .1 y), q)
-    back k (inr (f, r)) = inr (λ g. f (λ x. g (e .0 x)), r)
+    back : (k : ℕ) → First k ((P ↣ m) ∷ cs) → First k ((Q ↣ m) ∷ cs)
+    back k (inl (x, q)) = inl (e .0 x, q)
+    back k (inr (f, r)) = inr (λ y. f (e .1 y), r)
+
+pub same-conditions : {n m : ℕ} {P Q : Type 0} {cs : List Condition} → P ↔ Q → Answers n (((Q → ⊥) ↣ m) ∷ cs) → Answers n (((P → ⊥) ↣ m) ∷ cs)
+same-conditions e = same-first (λ f y. f (e .1 y), λ f x. f (e .0 x))
+
+-- one behind it that does not hold
+pub drop-last : {n m : ℕ} {c : Condition} {P : Type 0} → Answers n (c ∷ (P ↣ m) ∷ []) → (P → ⊥) → Answers n (c ∷ [])
+drop-last {n} {m} {c} {P} a f =
+    record {
+      accepts = (λ q. let z = a .accepts .0 q in (z .0, tt), λ z. a .accepts .1 (z .0, (f, tt)));
+      refuses = λ k h. (λ q. to k (a .refuses k h .0 q), λ r. a .refuses k h .1 (back k r));
+    }
+  where
+    to : (k : ℕ) → First k (c ∷ (P ↣ m) ∷ []) → First k (c ∷ [])
+    to k (inl x) = inl x
+    to k (inr (g, inl (p, q))) = absurd (f p)
+    to k (inr (g, inr (h, z))) = absurd z
+
+    back : (k : ℕ) → First k (c ∷ []) → First k (c ∷ (P ↣ m) ∷ [])
+    back k (inl x) = inl x
+    back k (inr (g, z)) = absurd z
 
 -- ---- 1,024 bytes are enough for every start and delivery
 
@@ -170,7 +190,7 @@ raw-turns r out l = go (any-in-turn (sessionOf r))
 raw-prepares-as : (p : Prepared) (cs : List Condition) → Preparing p cs → RawPreparing p cs
 raw-prepares-as p cs t =
     record {
-      number = t .number;
+      answers = t .number;
       used = refl;
       sent = refl;
       unstarted = λ q. ap bit (t .unstarted (number-accepted _ q));

@@ -3,13 +3,13 @@ use Prim.Native.Nat.{ℕ}
 use mathlib.Core.Path.{_≡_}
 use mathlib.Core.List.{List, []}
 use lib.ListN.{drop}
+use Rattle.protocol.specs.Bytes.{BytePieces}
 use Rattle.protocol.specs.Numbers.{number, status}
 use Rattle.protocol.specs.Bound.{Endpoint}
 use Rattle.serving.specs.End.{Setup, Standing, waits, asks, fails, success, machine, used}
-use Rattle.destinations.specs.Last.{targetAs}
 use Rattle.proxy_calls.specs.Server.{destination}
 use Rattle.proxy_calls.specs.Calls.{Call, setUp, deliver, answer, end}
-use Rattle.proxy.specs.Served.{setupFor, targetBy}
+use Rattle.proxy.specs.Served.{setupFor, targetBy, handedOut}
 use Rattle.raw_numbers.specs.Numbers.{truth}
 use Rattle.raw_session.specs.declared.RawOutcome.{RawOutcome}
 use Rattle.raw_server.specs.declared.RawServer.{RawServer}
@@ -59,16 +59,16 @@ pub record RawServes (c : Setup) (r : RawServer) (ds : List Delivery) : Type 0 w
   -- all sent bytes are the plain machine's on the joined bytes, and so is how the end stands, and the destination handed out
   pub sent-as : tunnelOf r ds .sent ≡ machine c (joinedOf ds) .sent
   pub standing-as : rawStanding (tunnelOf r ds .session) ≡ standingNumbers (machine c (joinedOf ds) .standing)
-  pub destination-as : rawTarget (tunnelOf r ds .session) ≡ targetOf (targetAs (targetBy (machine c (joinedOf ds) .standing)))
+  pub destination-as : rawTarget (tunnelOf r ds .session) ≡ targetOf (handedOut (targetBy (machine c (joinedOf ds) .standing)))
   -- so is the total count, and the rests joined are exactly the joined bytes after it
   pub count-as : tunnelOf r ds .count ≡ used c (joinedOf ds)
   pub rests-are : tunnelOf r ds .rest ≡ drop (tunnelOf r ds .count) (joinedOf ds)
   -- two lists with equal joined bytes are alike in all of these
-  pub alike : (ds′ : List Delivery) → Lent ds′ → joinedOf ds′ ≡ joinedOf ds → Alike (tunnelOf r ds′) (tunnelOf r ds)
+  pub alike : (ds′ : List Delivery) → BytePieces ds′ → Lent ds′ → joinedOf ds′ ≡ joinedOf ds → Alike (tunnelOf r ds′) (tunnelOf r ds)
 
 -- for any arguments of the set-up, if it answers 0
 abbrev pub RawServing : Type 0
-RawServing = (authenticates : ℕ) (user password : List ℕ) → setUpServed (setUp (truth authenticates) user password) .answer ≡ 0 → (ds : List Delivery) → Lent ds
+RawServing = (authenticates : ℕ) (user password : List ℕ) → setUpServed (setUp (truth authenticates) user password) .answer ≡ 0 → (ds : List Delivery) → BytePieces ds → Lent ds
     → RawServes (setupFor (truth authenticates) user password) (setUpServed (setUp (truth authenticates) user password) .server) ds
 
 -- all zeros is an end that refuses everything

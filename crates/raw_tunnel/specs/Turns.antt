@@ -68,7 +68,7 @@ StepsTold = (c : Call) → stepBy c .outcome ≡ rawOutcome (stepBy c .session)
 
 -- what a call that prepares returns: its number, no counts, and a session that waits, not started, or has failed with that number
 pub record RawPreparing (p : Prepared) (cs : List Condition) : Type 0 where
-  pub number : Answers (preparedStep p .answer) cs
+  pub answers : Answers (preparedStep p .answer) cs
   pub used : preparedStep p .used ≡ 0
   pub sent : preparedStep p .sent ≡ 0
   pub unstarted : preparedStep p .answer ≡ 0 → preparedStep p .session .started ≡ 0
