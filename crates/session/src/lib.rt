@@ -1,11 +1,10 @@
 // The client's side of a SOCKS handshake: a session that is prepared, started, fed with pieces, and ended.
 
 ghost use mathlib.Core.Path.{_≡_};
-ghost use mathlib.Core.Bool.{true};
 ghost use Prim.Native.Nat.{_≤_};
 ghost use lib.ListN.{length};
 ghost use Rattle.protocol.specs.declared.Answer.the-variants as Answer;
-ghost use Rattle.stages.specs.Told.{isOpen};
+ghost use Rattle.protocol.specs.declared.Outcome.the-variants as Outcome;
 ghost use Rattle.session.specs.Session.{outcome, bound, writeBound};
 ghost use Rattle.bound_text.specs.Written.{Writes};
 ghost use Rattle.session.specs.Calls.{Starts, start, Delivers, deliver, endedBy, end};
@@ -185,7 +184,7 @@ impl Session {
     // at most 261 bytes.
     pub fn bound_text(self, text: &mut [u8]) -> Written
         ensures { λ r. ⌜ Writes (writeBound self (now (text .entry))) r (now (text .exit)) ⌝ }
-        ensures { λ r. ⌜ (isOpen (self .stage) ≡ true → 261 ≤ length (now (text .entry)) → r .answer ≡ Answer.Accepted) ⌝ }
+        ensures { λ r. ⌜ (outcome self ≡ Outcome.Open → 261 ≤ length (now (text .entry)) → r .answer ≡ Answer.Accepted) ⌝ }
     {
         let stage = self.stage;
         if !is_open(stage) {

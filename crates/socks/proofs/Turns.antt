@@ -8,7 +8,7 @@ use mathlib.Core.List.{List, [], _∷_, _++_}
 use lib.ListN.{length, drop, length-append, length-drop, length-take}
 use lib.Seq.{drop-append-seam}
 use lib.Dec.{leb, lit<}
-use borrow.Author.Tests.{leb-true}
+use borrow.Author.Tests.{leb-true, not-true}
 use Rattle.protocol.specs.declared.Answer.the-variants.{Accepted, Refused}
 use Rattle.protocol.specs.declared.Bound.{Bound}
 use Rattle.protocol.specs.declared.Outcome.the-variants as outcomes
@@ -35,6 +35,7 @@ use Rattle.starting.proofs.Laws.{first-part, first-fits}
 use Rattle.stages.specs.Told.{isOpen}
 use Rattle.session.specs.declared.Session.{Session}
 use Rattle.session.specs.Session.{sideOf, view, heldBytes, packed, outcome, bound, writeBound, firstRoomAt, firstAt, roomAt}
+use Rattle.session.proofs.Named as named
 use Rattle.session.proofs.Deliveries.{is-over}
 use Rattle.session.specs.Calls.{Call, refusal, starts, start, takes, deliver, end}
 use Rattle.socks.specs.Turns.{Tells, noAddress, Untouched, InTurn, AnyInTurn}
@@ -50,14 +51,18 @@ over-just (waiting e h) = (λ q. absurd (true≢false (sym q)), λ f. absurd (f 
 over-just (ended (done x)) = (λ q r. let z : _≡_ {A = ℕ} 0 1 = cc in absurd (omega arith), λ f. refl)
 over-just (ended (failed e)) = (λ q r. let z : _≡_ {A = ℕ} 0 1 = cc in absurd (omega arith), λ f. refl)
 
-pub open-just : (stage : Stage) (b : Bound) (h : List ℕ) → not (isOpen stage) ≡ true ↔ (outcomeOf (viewAt stage b h) ≡ outcomes.Open → ⊥)
-open-just (Awaiting e) b h = (λ q r. let z : _≡_ {A = ℕ} 0 1 = cc in absurd (omega arith), λ f. refl)
-open-just Open b h = (λ q. absurd (true≢false (sym q)), λ f. absurd (f refl))
-open-just (Failed x) b h = (λ q r. let z : _≡_ {A = ℕ} 0 1 = cc in absurd (omega arith), λ f. refl)
-
 not-just : (b : Bool) → not b ≡ true ↔ (b ≡ false)
 not-just true = (λ q. absurd (true≢false (sym q)), λ q. absurd (true≢false q))
 not-just false = (λ q. refl, λ q. refl)
+
+not-open : (s : Session) → not (isOpen (s .stage)) ≡ true ↔ (outcome s ≡ outcomes.Open → ⊥)
+not-open s =
+    let o = named.open-just s in
+    (λ q r. true≢false (sym (o .1 r) ∙ not-true (isOpen (s .stage)) q), λ f. go (isOpen (s .stage)) (λ q. f (o .0 q)))
+  where
+    go : (b : Bool) → (b ≡ true → ⊥) → not b ≡ true
+    go true f = absurd (f refl)
+    go false f = refl
 
 -- ---- what a session value may still send is no more than it asks
 
@@ -270,7 +275,7 @@ module _ (s : Session) where
     unfolding writeBound
     text-number =
         rw (go (isOpen (s .stage)) (leb (length (boundText (bound s))) (length buffer)))
-        (checked (not (isOpen (s .stage))) _ NotOpen 17 _ _ refl (lit< tt) (open-just (s .stage) (s .bound) (heldBytes s))
+        (checked (not (isOpen (s .stage))) _ NotOpen 17 _ _ refl (lit< tt) (not-open s)
         (checked (not (leb (length (boundText (bound s))) (length buffer))) _ ShortText 18 Accepted [] refl (lit< tt) (not-long (length (boundText (bound s))) (length buffer)) all-passed))
       where
         go : (a b : Bool) → texted a b .answer ≡ refuse (not a) NotOpen (refuse (not b) ShortText Accepted)

@@ -1,7 +1,7 @@
 use mathlib.Core.Path.{sym, _∙_}
 use mathlib.Core.Bool.{true≢false}
 use borrow.Author.Tests.{not-true, not-false}
-use Rattle.session.proofs.Named.{not-written, written}
+use Rattle.session.proofs.Named.{open-just, not-written, written}
 use borrow.Author.Needs.{needs}
 use Rattle.session.proofs.Session.bound_text.Statement.{statement}
 use Rattle.session.proofs.Session.bound_text.Tie as tie
@@ -10,7 +10,7 @@ is-open-requires : tie.Need-is-open-requires
 is-open-requires c κs = search needs
 
 returns : tie.Need-returns
-returns c = (not-written (c .before .before .before .args .self) (c .before .is-open .ensures) (not-true _ (c .if1 .taken)) (c .before .before .before .args .text .now), λ o h. absurd (true≢false (sym o ∙ sym (c .before .is-open .ensures) ∙ not-true _ (c .if1 .taken))))
+returns c = (not-written (c .before .before .before .args .self) (c .before .is-open .ensures) (not-true _ (c .if1 .taken)) (c .before .before .before .args .text .now), λ o h. absurd (true≢false (sym (open-just (c .before .before .before .args .self) .1 o) ∙ sym (c .before .is-open .ensures) ∙ not-true _ (c .if1 .taken))))
 
 bound-requires : tie.Need-bound-requires
 bound-requires c κs = search needs
