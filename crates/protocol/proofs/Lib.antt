@@ -17,3 +17,4 @@ pub mod Examples
 pub mod Limits
 pub mod Announced
 pub mod Rooms
+pub mod Judged

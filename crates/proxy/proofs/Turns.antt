@@ -1,7 +1,7 @@
 -- F-3: which call is in turn, that a refused one touches nothing, and what an accepted one leaves, of any end.
 use Prim.Native.Nat.{ℕ, _≤_, _<_}
 use native.Mathlib.Omega.{arith}
-use mathlib.Core.Path.{_≡_, refl, ap, sym, subst, _∙_}
+use mathlib.Core.Path.{_≡_, refl, ap, sym, subst}
 use mathlib.Core.Logic.{_↔_}
 use mathlib.Core.Bool.{Bool, true, false, true≢false, cond, not}
 use mathlib.Core.List.{List, [], _∷_, _++_}
@@ -17,6 +17,7 @@ use Rattle.protocol.specs.Numbers.{answerNumber}
 use Rattle.protocol.specs.AddressReading.{Destination, ipv4, ipv6, domain}
 use Rattle.protocol.specs.Bound.{Endpoint, endpoint}
 use Rattle.protocol.specs.Opening.{_↣_, Answers, refuse}
+use Rattle.protocol.proofs.Judged.{refuses, accepts, answered, stays}
 use Rattle.protocol.proofs.Openings.{clash, same-error, not-long, all-passed, checked}
 use Rattle.serving.specs.declared.Stage.{Stage}
 use Rattle.serving.specs.declared.Stage.the-variants.{Awaiting, Asked, Open, Failed}
@@ -63,30 +64,6 @@ unasked-just (Failed d) = (λ q e. true≢false (sym (ap isAsked e)), λ n. refl
 
 -- ---- a delivery and an end
 
-module _ (s : Server) (out : List ℕ) (k : Call) (x : k .answer ≡ Accepted) where
-  abbrev judged : Bool → Bool → Call
-  judged a b = cond a (refusal Settled s out) (cond b k (refusal ShortOutput s out))
-
-  refuses : (a b : Bool) → Untouched (judged a b) s out
-  refuses true b e q = rw (same-error q)
-  refuses false true e q = absurd (clash (sym x ∙ q))
-  refuses false false e q = rw (same-error q)
-
-  answered : (a b : Bool) → judged a b .answer ≡ refuse a Settled (refuse (not b) ShortOutput Accepted)
-  answered true b = refl
-  answered false true = x
-  answered false false = refl
-
-  accepts : (a b : Bool) → judged a b .answer ≡ Accepted → judged a b ≡ k
-  accepts true b q = absurd (clash (sym q))
-  accepts false true q = refl
-  accepts false false q = absurd (clash (sym q))
-
-  stays : (a b : Bool) → (b ≡ true → Behind k out) → Behind (judged a b) out
-  stays true b f = none-sent _ s 0 out
-  stays false true f = f refl
-  stays false false f = none-sent _ s 0 out
-
 takes-accepts : (s : Server) (piece out : List ℕ) → takes s piece out .answer ≡ Accepted
 takes-accepts s [] out = refl
 takes-accepts s (b ∷ bs) out = refl
@@ -98,17 +75,17 @@ module _ (s : Server) where
   deliver-number : (piece out : List ℕ) → Answers (answerNumber (deliver s piece out .answer)) (((told s ≡ outcome.Waiting → ⊥) ↣ 16) ∷ ((length out < 262) ↣ 1) ∷ [])
   unfolding deliver
   deliver-number piece out =
-      rw (answered s out (takes s piece out) (takes-accepts s piece out) (isOver (view s)) (leb 262 (length out)))
+      rw (answered s out (takes s piece out) (takes-accepts s piece out) (isOver (view s)) false (leb 262 (length out)) _ (λ z w. refl))
       (checked (isOver (view s)) _ Settled 16 _ _ refl (lit< tt) over
       (checked (not (leb 262 (length out))) _ ShortOutput 1 Accepted [] refl (lit< tt) (not-long 262 (length out)) all-passed))
 
   deliver-untouched : (piece out : List ℕ) → Untouched (deliver s piece out) s out
   unfolding deliver
-  deliver-untouched piece out = refuses s out (takes s piece out) (takes-accepts s piece out) (isOver (view s)) (leb 262 (length out))
+  deliver-untouched piece out = refuses s out (takes s piece out) (takes-accepts s piece out) (isOver (view s)) false (leb 262 (length out))
 
   nothing : (out : List ℕ) → deliver s [] out .answer ≡ Accepted → deliver s [] out ≡ record { answer = Accepted; session = s; used = 0; sent = 0; output = out }
   unfolding deliver
-  nothing out = accepts s out (takes s [] out) refl (isOver (view s)) (leb 262 (length out))
+  nothing out p = accepts s out (takes s [] out) refl (isOver (view s)) false (leb 262 (length out)) p .1
 
   -- it sends at most 14 bytes of its own
   sends-few : (t : Stage) (x : Endpoint) (h more : List ℕ) → length (onward (sideOf s) (sessionAt t x h) more .sent) ≤ 14
@@ -120,7 +97,7 @@ module _ (s : Server) where
 
   deliver-behind : (piece out : List ℕ) → Behind (deliver s piece out) out
   unfolding deliver
-  deliver-behind piece out = stays s out (takes s piece out) (takes-accepts s piece out) (isOver (view s)) (leb 262 (length out)) (λ q. go piece (leb-true 262 (length out) q))
+  deliver-behind piece out = stays s out (takes s piece out) (takes-accepts s piece out) (isOver (view s)) false (leb 262 (length out)) (λ q. go piece (leb-true 262 (length out) q))
     where
       go : (p : List ℕ) → 262 ≤ length out → Behind (takes s p out) out
       go [] h = none-sent _ s 0 out
@@ -132,16 +109,16 @@ module _ (s : Server) where
   end-number : Answers (answerNumber (end s .answer)) (((told s ≡ outcome.Waiting → ⊥) ↣ 16) ∷ [])
   unfolding end
   end-number =
-      rw (answered s [] ending refl (isOver (view s)) true)
+      rw (answered s [] ending refl (isOver (view s)) false true true (λ z w. refl))
       (checked (isOver (view s)) _ Settled 16 Accepted [] refl (lit< tt) over all-passed)
 
   end-untouched : Untouched (end s) s []
   unfolding end
-  end-untouched = refuses s [] ending refl (isOver (view s)) true
+  end-untouched = refuses s [] ending refl (isOver (view s)) false true
 
   end-accepts : end s .answer ≡ Accepted → end s ≡ ending
   unfolding end
-  end-accepts = accepts s [] ending refl (isOver (view s)) true
+  end-accepts p = accepts s [] ending refl (isOver (view s)) false true p .1
 
 -- an end uses and sends nothing
 pub end-counts : (s : Server) → (end s .used ≡ 0) × (end s .sent ≡ 0)

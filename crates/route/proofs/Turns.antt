@@ -17,6 +17,7 @@ use Rattle.protocol.specs.declared.Bound.{Bound}
 use Rattle.protocol.specs.Numbers.{answerNumber, outcomeNumber}
 use Rattle.protocol.specs.Opening.{_↣_, Answers, refuse, Opening, firstReply}
 use Rattle.protocol.proofs.Openings.{clash, same-error, not-long, all-passed, checked}
+use Rattle.protocol.proofs.Judged.{judged, refuses, accepts, answered, stays}
 use Rattle.protocol.proofs.Limits.{answer-not-11, outcome-not-11}
 use Rattle.sending.specs.declared.Requests.{Requests}
 use Rattle.sending.specs.declared.Stage.{Stage}
@@ -87,35 +88,6 @@ relayed-none hops bytes (suc n) s g v =
     stops Open b h q here next goes = absurd (true≢false q)
     stops (Failed e) b h q here next goes = absurd (true≢false q)
 
--- ---- a call by its tests: settled, and output long enough
-
-module _ (r : Route) (out : List ℕ) (k : Call) (x : k .answer ≡ Accepted) where
-  abbrev judged : Bool → Bool → Call
-  judged a b = cond a (refusal Settled r out) (cond b k (refusal ShortOutput r out))
-
-  refuses : (a b : Bool) → Untouched (judged a b) r out
-  refuses true b e q = rw (same-error q)
-  refuses false true e q = absurd (clash (sym x ∙ q))
-  refuses false false e q = rw (same-error q)
-
-  accepts : (a b : Bool) → judged a b .answer ≡ Accepted → (a ≡ false) × (judged a b ≡ k)
-  accepts true b q = absurd (clash (sym q))
-  accepts false true q = (refl, refl)
-  accepts false false q = absurd (clash (sym q))
-
-  answered : (a b c : Bool) → (a ≡ false → b ≡ c) → judged a b .answer ≡ refuse a Settled (refuse (not c) ShortOutput Accepted)
-  answered true b c f = refl
-  answered false b c f = rw (f refl) (go c)
-    where
-      go : (c : Bool) → cond c k (refusal ShortOutput r out) .answer ≡ refuse (not c) ShortOutput Accepted
-      go true = x
-      go false = refl
-
-  stays : (a b : Bool) → (b ≡ true → Behind k out) → Behind (judged a b) out
-  stays true b f = none-sent _ r 0 out
-  stays false true f = f refl
-  stays false false f = none-sent _ r 0 out
-
 module _ (r : Route) where
   abbrev over : isOver r ≡ true ↔ (outcome r ≡ outcomes.Waiting → ⊥)
   over = over-just (view (sessionIn r))
@@ -126,23 +98,23 @@ module _ (r : Route) where
     deliver-number : (room : ℕ) → roomIn r ≡ room → Answers (answerNumber (deliver r piece out .answer)) (((outcome r ≡ outcomes.Waiting → ⊥) ↣ 16) ∷ ((length out < room) ↣ 1) ∷ [])
     unfolding deliver
     deliver-number room q =
-        rw (answered r out (takes r piece out) refl (isOver r) (leb (roomIn r) (length out)) (leb room (length out)) (λ z. ap (λ (n : ℕ). leb n (length out)) q))
+        rw (answered r out (takes r piece out) refl (isOver r) false (leb (roomIn r) (length out)) (leb room (length out)) (λ z w. ap (λ (n : ℕ). leb n (length out)) q))
         (checked (isOver r) _ Settled 16 _ _ refl (lit< tt) over (checked (not (leb room (length out))) _ ShortOutput 1 Accepted [] refl (lit< tt) (not-long room (length out)) all-passed))
 
     deliver-untouched : Untouched (deliver r piece out) r out
     unfolding deliver
-    deliver-untouched = refuses r out (takes r piece out) refl (isOver r) (leb (roomIn r) (length out))
+    deliver-untouched = refuses r out (takes r piece out) refl (isOver r) false (leb (roomIn r) (length out))
 
     deliver-accepts : deliver r piece out .answer ≡ Accepted → (isOver r ≡ false) × (deliver r piece out ≡ takes r piece out)
     unfolding deliver
-    deliver-accepts = accepts r out (takes r piece out) refl (isOver r) (leb (roomIn r) (length out))
+    deliver-accepts = accepts r out (takes r piece out) refl (isOver r) false (leb (roomIn r) (length out))
 
     deliver-behind : Behind (deliver r piece out) out
     unfolding deliver
     deliver-behind =
         let s = sessionIn r in
         let few = relayed-few (r .hops) (r .bytes) (behindIn r) s piece in
-        stays r out (takes r piece out) refl (isOver r) (leb (roomIn r) (length out))
+        stays r out (takes r piece out) refl (isOver r) false (leb (roomIn r) (length out))
         (λ q. stand-at Accepted _ _ (relayed (r .hops) (r .bytes) (behindIn r) s piece .sent) out (omega (arith, few, still-few (s .stage) (s .requests), leb-true (roomIn r) (length out) q)))
 
   -- an empty piece in turn leaves the session of the proxy that is spoken to as it is
@@ -229,7 +201,7 @@ room-stays : (r : Route) (piece out : List ℕ) → roomIn (deliver r piece out 
 unfolding deliver
 room-stays r piece out = go (isOver r) (leb (roomIn r) (length out))
   where
-    go : (a b : Bool) → roomIn (judged r out (takes r piece out) refl a b .session) ≡ roomIn r
+    go : (a b : Bool) → roomIn (judged r out (takes r piece out) refl a false b .session) ≡ roomIn r
     go true b = refl
     go false true = refl
     go false false = refl

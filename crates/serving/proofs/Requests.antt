@@ -4,18 +4,18 @@ use native.Mathlib.Nat.{le-refl}
 use native.Mathlib.Omega.{arith}
 use mathlib.Core.Path.{_≡_, refl, ap, sym, subst, _∙_}
 use mathlib.Core.Logic.{_↔_, inl, inr}
-use mathlib.Core.Bool.{Bool, true, false, cond, false≢true, _&&_}
+use mathlib.Core.Bool.{Bool, true, false, cond, false≢true}
 use mathlib.Core.List.{List, [], _∷_, _++_}
 use lib.ListN.{length, take, drop, drop-of-length-le, length-append, length-drop, length-take, take-append-drop, List·getD-append}
 use lib.Seq.{take-at, drop-at, length-take-le, drop-append-le, drop-drop, getD-take}
-use lib.Dec.{eqb, ltb, lit≤, lit<}
-use borrow.Author.Tests.{le-leb, eqb-true, eq-eqb, ltb-true, lt-ltb}
+use lib.Dec.{eqb, lit≤, lit<}
+use borrow.Author.Tests.{le-leb, eqb-true, eq-eqb}
 use Rattle.protocol.specs.Bytes.{Bytes, byte, twoOf}
 use Rattle.protocol.specs.AddressReading.{ipv4, domain}
 use Rattle.protocol.specs.Bound.{Endpoint, endpoint}
 use Rattle.protocol.specs.Requests.{Announces}
 use Rattle.protocol.specs.Opening.{announces}
-use Rattle.protocol.proofs.Tests.{both}
+use Rattle.protocol.proofs.Openings.{announces-just}
 use Rattle.serving.specs.Words.{Unbroken, Request, addressed, announced}
 use Rattle.serving.specs.Reads.{Seen, short, wrong, unknown, whole, textIn, further, portIn, nameIn, behindUser, requestIn}
 use Rattle.serving.proofs.Seen.{Decided, Late, Ext, late-cond, late-held, late-from, late-less, ext-from, ext-cond, ext-held, ext-whole, from-inv, held-inv, whole-inv, settled, early, itself, just}
@@ -122,22 +122,6 @@ pub request-itself : (bs : List ℕ) (n : ℕ) → Decided n (requestIn bs) → 
 request-itself = itself requestIn request-extends
 
 -- ---- the address that announces a name
-
-pub announces-just : (ip : List ℕ) → announces ip ≡ true ↔ Announces ip
-unfolding announces
-announces-just ip = (there ip, λ (x, l, e). rw (e, lt-ltb 0 x l))
-  where
-    there : (ip : List ℕ) → announces ip ≡ true → Announces ip
-    there (a ∷ b ∷ c ∷ d ∷ []) q =
-        let t = both (eqb a 0) (eqb b 0 && (eqb c 0 && ltb 0 d)) q in
-        let u = both (eqb b 0) (eqb c 0 && ltb 0 d) (t .1) in
-        let v = both (eqb c 0) (ltb 0 d) (u .1) in
-        (d, ltb-true 0 d (v .1), rw (eqb-true a 0 (t .0), eqb-true b 0 (u .0), eqb-true c 0 (v .0)))
-    there [] q = absurd (false≢true q)
-    there (a ∷ []) q = absurd (false≢true q)
-    there (a ∷ b ∷ []) q = absurd (false≢true q)
-    there (a ∷ b ∷ c ∷ []) q = absurd (false≢true q)
-    there (a ∷ b ∷ c ∷ d ∷ e ∷ r) q = let z = eqb-true (length (a ∷ b ∷ c ∷ d ∷ e ∷ r)) 4 (both (eqb (length (a ∷ b ∷ c ∷ d ∷ e ∷ r)) 4) (eqb a 0 && (eqb b 0 && (eqb c 0 && ltb 0 d))) q .0) in absurd (omega arith)
 
 pub announces-not : (ip : List ℕ) → (Announces ip → ⊥) → announces ip ≡ false
 announces-not ip h = go (announces ip) refl

@@ -20,6 +20,7 @@ use Rattle.protocol.specs.Numbers.{answerNumber}
 use Rattle.protocol.specs.Opening.{_↣_, Answers, refuse}
 use Rattle.protocol.specs.Client.{client, outcomeOf}
 use Rattle.protocol.proofs.Openings.{clash, same-error, not-long, all-passed, checked}
+use Rattle.protocol.proofs.Judged.{judged, refuses, accepts, answered, stays}
 use Rattle.protocol.proofs.Rooms.{sendsMost, asks-more, onward-sends}
 use Rattle.bound_text.specs.Text.{boundText}
 use Rattle.bound_text.specs.Written.{TextCall, unwritten, writeText}
@@ -37,7 +38,7 @@ use Rattle.session.specs.declared.Session.{Session}
 use Rattle.session.specs.Session.{sideOf, view, heldBytes, packed, outcome, bound, writeBound, firstRoomAt, firstAt, roomAt}
 use Rattle.session.proofs.Named as named
 use Rattle.session.proofs.Deliveries.{is-over}
-use Rattle.session.specs.Calls.{Call, refusal, starts, start, takes, deliver, end}
+use Rattle.session.specs.Calls.{Call, starts, start, takes, deliver, end}
 use Rattle.socks.specs.Turns.{Tells, noAddress, Untouched, InTurn, AnyInTurn}
 use Rattle.talk.specs.Talk as talk
 use Rattle.talk.specs.Talk.{waiting, ended, done, failed, onward, isOver}
@@ -93,39 +94,6 @@ first-room e r = rw (first-part e r) (omega (arith, length-take (firstSize (r .l
     go ProxyRes = first5-room (r .lengths)
     go Response = omega arith
 
--- ---- a call by its three tests: settled, out of order, output long enough
-
-module _ (s : Session) (out : List ℕ) (k : Call) (x : k .answer ≡ Accepted) where
-  abbrev judged : Bool → Bool → Bool → Call
-  judged a b c = cond a (refusal Settled s out) (cond b (refusal OutOfOrder s out) (cond c k (refusal ShortOutput s out)))
-
-  refuses : (a b c : Bool) → Untouched (judged a b c) s out
-  refuses true b c e p = rw (same-error p)
-  refuses false true c e p = rw (same-error p)
-  refuses false false true e p = absurd (clash (sym x ∙ p))
-  refuses false false false e p = rw (same-error p)
-
-  accepts : (a b c : Bool) → judged a b c .answer ≡ Accepted → judged a b c ≡ k
-  accepts true b c p = absurd (clash (sym p))
-  accepts false true c p = absurd (clash (sym p))
-  accepts false false true p = refl
-  accepts false false false p = absurd (clash (sym p))
-
-  answered : (a b c d : Bool) → (a ≡ false → b ≡ false → c ≡ d) → judged a b c .answer ≡ refuse a Settled (refuse b OutOfOrder (refuse (not d) ShortOutput Accepted))
-  answered true b c d f = refl
-  answered false true c d f = refl
-  answered false false c d f = rw (f refl refl) (go d)
-    where
-      go : (d : Bool) → cond d k (refusal ShortOutput s out) .answer ≡ refuse (not d) ShortOutput Accepted
-      go true = x
-      go false = refl
-
-  stays : (a b c : Bool) → (a ≡ false → c ≡ true → Behind k out) → Behind (judged a b c) out
-  stays true b c f = none-sent _ s 0 out
-  stays false true c f = none-sent _ s 0 out
-  stays false false true f = f refl refl
-  stays false false false f = none-sent _ s 0 out
-
 -- 16, 22, 1 in this order
 ordered : (a b : Bool) (P Q : Type 0) (m n : ℕ) → a ≡ true ↔ P → b ≡ true ↔ Q
     → Answers (answerNumber (refuse a Settled (refuse b OutOfOrder (refuse (not (leb m n)) ShortOutput Accepted)))) ((P ↣ 16) ∷ (Q ↣ 22) ∷ ((n < m) ↣ 1) ∷ [])
@@ -160,13 +128,13 @@ module _ (s : Session) where
 
     pub start-accepts : start s out .answer ≡ Accepted → start s out ≡ begun
     unfolding start
-    start-accepts = accepts s out begun refl (isOver (view s)) (s .started) (leb (firstRoomAt (s .stage)) (length out))
+    start-accepts p = accepts s out begun refl (isOver (view s)) (s .started) (leb (firstRoomAt (s .stage)) (length out)) p .1
 
     pub start-behind : Behind (start s out) out
     unfolding start
     start-behind =
         stays s out begun refl (isOver (view s)) (s .started) (leb (firstRoomAt (s .stage)) (length out))
-        (λ p q. stand-at Accepted _ 0 (firstAt (s .stage) (s .requests)) out (omega (arith, fits (s .stage) (s .requests), leb-true (firstRoomAt (s .stage)) (length out) q)))
+        (λ q. stand-at Accepted _ 0 (firstAt (s .stage) (s .requests)) out (omega (arith, fits (s .stage) (s .requests), leb-true (firstRoomAt (s .stage)) (length out) q)))
       where
         fits : (stage : Stage) (r : Requests) → length (firstAt stage r) ≤ firstRoomAt stage
         fits (Awaiting e) r = rw (first-part e r) (omega (arith, length-take (firstSize (r .lengths) e) (r .bytes), first-fits (r .lengths) e))
@@ -207,13 +175,13 @@ module _ (s : Session) where
 
     pub deliver-accepts : deliver s piece out .answer ≡ Accepted → deliver s piece out ≡ takes s piece out
     unfolding deliver
-    deliver-accepts = accepts s out (takes s piece out) (taken piece out) (isOver (view s)) (not (s .started)) (leb (roomAt (s .stage)) (length out))
+    deliver-accepts p = accepts s out (takes s piece out) (taken piece out) (isOver (view s)) (not (s .started)) (leb (roomAt (s .stage)) (length out)) p .1
 
     pub deliver-behind : Behind (deliver s piece out) out
     unfolding deliver
     deliver-behind =
         stays s out (takes s piece out) (taken piece out) (isOver (view s)) (not (s .started)) (leb (roomAt (s .stage)) (length out))
-        (λ p q. go piece (leb-true (roomAt (s .stage)) (length out) q))
+        (λ q. go piece (leb-true (roomAt (s .stage)) (length out) q))
       where
         go : (p : List ℕ) → roomAt (s .stage) ≤ length out → Behind (takes s p out) out
         go [] h = none-sent _ s 0 out
@@ -261,7 +229,7 @@ module _ (s : Session) where
 
   pub end-accepts : end s .answer ≡ Accepted → end s ≡ ending
   unfolding end
-  end-accepts = accepts s [] ending refl (isOver (view s)) (not (s .started)) true
+  end-accepts p = accepts s [] ending refl (isOver (view s)) (not (s .started)) true p .1
 
   -- ---- F-1: a bound address's text
 
