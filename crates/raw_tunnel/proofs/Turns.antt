@@ -123,7 +123,7 @@ untouched c r out h n = go (c .answer) refl
 
 -- ---- what is told of the session that a call returns
 
-told : (s : Session) {how : Outcome} {at : Address} {tries : ℕ} → Tells s how at tries → RawTells (rawOf s) (outcomeOf how) (addressOf at) tries
+told : (s : Session) {how : Outcome} {at : Address} {tries held : ℕ} → Tells s how at tries held → RawTells (rawOf s) (outcomeOf how) (addressOf at) tries
 told s w =
     let b = session-back s in
     record {

@@ -87,12 +87,12 @@ opened-text o s sent ds d q p x b r first next k buffer h =
 
 -- ---- single calls
 
--- what is told of a session: outcome, bound address and attempts
-abbrev shown : Session → Outcome × (Address × ℕ)
-shown s = (outcome s, (bound s, s .attempts))
+-- what is told of a session: outcome, bound address and attempts; and how many bytes it holds
+abbrev shown : Session → Outcome × (Address × (ℕ × ℕ))
+shown s = (outcome s, (bound s, (s .attempts, s .held)))
 
-same-shown : {s : Session} {how : Outcome} {at : Address} {tries : ℕ} → Tells s how at tries → shown s ≡ (how, (at, tries))
-same-shown w = λ i. (w .outcomes i, (w .bounds i, w .attempts i))
+same-shown : {s : Session} {how : Outcome} {at : Address} {tries held : ℕ} → Tells s how at tries held → shown s ≡ (how, (at, (tries, held)))
+same-shown w = λ i. (w .outcomes i, (w .bounds i, (w .attempts i, w .holds i)))
 
 -- the first of some conditions holds
 pub holds : {n m : ℕ} {P : Type 0} {cs : List Condition} → Answers n ((P ↣ m) ∷ cs) → 0 < m → P → n ≡ m
@@ -126,7 +126,7 @@ module _ (first next : ℕ) (s : Session) (t : InTurn first next s) where
   written-only piece out = (t .start-behind out .bytes, t .deliver-behind piece out .size)
 
   -- an end told by numbers: 9, no address, and the attempts that there were
-  pub ended-9 : end s .answer ≡ Accepted → (outcomeNumber (outcome (end s .session)) ≡ 9) × (shown (end s .session) ≡ (Failed UnexpectedEof, (noAddress, s .attempts)))
+  pub ended-9 : end s .answer ≡ Accepted → (outcomeNumber (outcome (end s .session)) ≡ 9) × (shown (end s .session) ≡ (Failed UnexpectedEof, (noAddress, (s .attempts, 0))))
   ended-9 p = (t .end-nine p, same-shown (t .end-fails p))
 
   -- an empty piece leaves the session as it is, started or not
@@ -142,7 +142,7 @@ module _ (first next : ℕ) (s : Session) (t : InTurn first next s) where
 
 -- preparing, told by its number: refused, what it returned has failed with it, and is empty; accepted, it waits and is not started
 module _ (p : Prepared) (cs : List Condition) (t : Preparing p cs) where
-  pub refused-is : (e : SocksError) → p .answer ≡ Refused e → shown (p .session) ≡ (Failed e, (noAddress, 0))
+  pub refused-is : (e : SocksError) → p .answer ≡ Refused e → shown (p .session) ≡ (Failed e, (noAddress, (0, 0)))
   refused-is e q = same-shown (t .fails e q)
 
   pub refused-empty : (e : SocksError) → p .answer ≡ Refused e → p .session .held ≡ 0

@@ -40,17 +40,17 @@ prepares x o cs a =
     unstarted Accepted p = refl
     unstarted (Refused e) p = refl
 
-    waits : (y : Answer) → preparedBy y o .answer ≡ Accepted → Tells (preparedBy y o .session) Waiting noAddress 0
-    waits Accepted p = record { outcomes = refl; bounds = refl; attempts = refl }
+    waits : (y : Answer) → preparedBy y o .answer ≡ Accepted → Tells (preparedBy y o .session) Waiting noAddress 0 0
+    waits Accepted p = record { outcomes = refl; bounds = refl; attempts = refl; holds = refl }
     waits (Refused e) p = absurd (clash (sym p))
 
     empty : (y : Answer) (e : SocksError) → preparedBy y o .answer ≡ Refused e → preparedBy y o .session ≡ emptySession e
     empty Accepted e p = absurd (clash p)
     empty (Refused d) e p = ap emptySession (same-error p)
 
-    fails : (y : Answer) (e : SocksError) → preparedBy y o .answer ≡ Refused e → Tells (preparedBy y o .session) (Failed e) noAddress 0
+    fails : (y : Answer) (e : SocksError) → preparedBy y o .answer ≡ Refused e → Tells (preparedBy y o .session) (Failed e) noAddress 0 0
     fails Accepted e p = absurd (clash p)
-    fails (Refused d) e p = record { outcomes = ap Failed (same-error p); bounds = refl; attempts = refl }
+    fails (Refused d) e p = record { outcomes = ap Failed (same-error p); bounds = refl; attempts = refl; holds = refl }
 
 module _ (a : V5) where
   pub preparing5 : Preparing (prepare5 a) (conditions5 a)

@@ -294,10 +294,10 @@ in-turn first next s f g =
       deliver-untouched = deliver-untouched s;
       end-untouched = end-untouched s;
       start-marks = λ out p. ap (λ (c : Call). c .session .started) (start-accepts s out p);
-      start-keeps = λ out p. subst (λ (c : Call). Tells (c .session) (outcome s) (bound s) (s .attempts)) (sym (start-accepts s out p)) (record { outcomes = refl; bounds = refl; attempts = refl });
+      start-keeps = λ out p. subst (λ (c : Call). Tells (c .session) (outcome s) (bound s) (s .attempts) (s .held)) (sym (start-accepts s out p)) (record { outcomes = refl; bounds = refl; attempts = refl; holds = refl });
       deliver-keeps = deliver-keeps s;
       nothing = λ out p. deliver-accepts s [] out p;
-      end-fails = λ p. subst (λ (c : Call). Tells (c .session) (outcomes.Failed UnexpectedEof) noAddress (s .attempts)) (sym (end-accepts s p)) (record { outcomes = refl; bounds = refl; attempts = refl });
+      end-fails = λ p. subst (λ (c : Call). Tells (c .session) (outcomes.Failed UnexpectedEof) noAddress (s .attempts) 0) (sym (end-accepts s p)) (record { outcomes = refl; bounds = refl; attempts = refl; holds = refl });
       end-nine = λ p. rw (end-accepts s p);
       start-behind = start-behind s;
       deliver-behind = deliver-behind s;

@@ -23,11 +23,12 @@ use Rattle.session.specs.Calls.{Call, refusal, emptySession, start, deliver, en
 use Rattle.socks.specs.Demand3.{tunnelOf}
 use Rattle.talk.specs.Tunnel.{Delivery, Behind}
 
--- what is told of a session
-pub record Tells (s : Session) (how : Outcome) (at : Address) (tries : ℕ) : Type 0 where
+-- what is told of a session, and how many bytes it holds (F-11)
+pub record Tells (s : Session) (how : Outcome) (at : Address) (tries held : ℕ) : Type 0 where
   pub outcomes : outcome s ≡ how
   pub bounds : bound s ≡ at
   pub attempts : s .attempts ≡ tries
+  pub holds : s .held ≡ held
 
 abbrev pub noAddress : Address
 noAddress = addressOf unbound
@@ -39,10 +40,10 @@ pub record Preparing (p : Prepared) (cs : List Condition) : Type 0 where
   pub number : Answers (answerNumber (p .answer)) cs
   -- an accepted one is not started, and waits
   pub unstarted : p .answer ≡ Accepted → p .session .started ≡ false
-  pub waits : p .answer ≡ Accepted → Tells (p .session) Waiting noAddress 0
+  pub waits : p .answer ≡ Accepted → Tells (p .session) Waiting noAddress 0 0
   -- a refused one comes back empty, failed with that number
   pub empty : (e : SocksError) → p .answer ≡ Refused e → p .session ≡ emptySession e
-  pub fails : (e : SocksError) → p .answer ≡ Refused e → Tells (p .session) (Failed e) noAddress 0
+  pub fails : (e : SocksError) → p .answer ≡ Refused e → Tells (p .session) (Failed e) noAddress 0 0
 
 -- ---- a start, a delivery, an end, and a bound address's text
 
@@ -62,12 +63,12 @@ pub record InTurn (first next : ℕ) (s : Session) : Type 0 where
   pub end-untouched : Untouched (end s) s []
   -- an accepted start has started it, and nothing else that is told changes
   pub start-marks : (out : List ℕ) → start s out .answer ≡ Accepted → start s out .session .started ≡ true
-  pub start-keeps : (out : List ℕ) → start s out .answer ≡ Accepted → Tells (start s out .session) (outcome s) (bound s) (s .attempts)
+  pub start-keeps : (out : List ℕ) → start s out .answer ≡ Accepted → Tells (start s out .session) (outcome s) (bound s) (s .attempts) (s .held)
   -- a delivery leaves it started, or not, and an empty piece in turn changes nothing
   pub deliver-keeps : (piece out : List ℕ) → deliver s piece out .session .started ≡ s .started
   pub nothing : (out : List ℕ) → deliver s [] out .answer ≡ Accepted → deliver s [] out ≡ record { answer = Accepted; session = s; used = 0; sent = 0; output = out }
   -- an accepted end: 9
-  pub end-fails : end s .answer ≡ Accepted → Tells (end s .session) (Failed UnexpectedEof) noAddress (s .attempts)
+  pub end-fails : end s .answer ≡ Accepted → Tells (end s .session) (Failed UnexpectedEof) noAddress (s .attempts) 0
   pub end-nine : end s .answer ≡ Accepted → outcomeNumber (outcome (end s .session)) ≡ 9
   -- the bytes behind what is sent are as they were
   pub start-behind : (out : List ℕ) → Behind (start s out) out
