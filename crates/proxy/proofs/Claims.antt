@@ -94,6 +94,10 @@ module _ (authenticates : Bool) (user password : List ℕ) (k : SettingUp authen
       let t = k .refused e r in
       λ i. (q i, t .outcomes i, t .destinations i)
 
+  -- and it keeps nothing of them
+  pub long-kept : (e : SocksError) → setUp authenticates user password .answer ≡ Refused e → (setUp authenticates user password .server .held ≡ 0) × (setUp authenticates user password .server .user .len ≡ 0)
+  long-kept e r = let q = k .empty e r in (ap (λ (s : Server). s .held) q, ap (λ (s : Server). s .user .len) q)
+
 -- ---- calls in turn and out of turn, of any end
 
 -- refused with a number, all left as it was

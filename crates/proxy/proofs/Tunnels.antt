@@ -249,6 +249,10 @@ module _ (authenticates : Bool) (user password : List ℕ) where
   answered true = refl
   answered false = refl
 
+  empty : (b : Bool) (e : SocksError) → set-up b .answer ≡ Refused e → set-up b .server ≡ fresh (stage.Failed CredentialTooLong) false (credentialOf []) (credentialOf [])
+  empty true e q = refl
+  empty false e q = absurd (clash q)
+
   refused : (b : Bool) (e : SocksError) → set-up b .answer ≡ Refused e → Tells (set-up b .server) (told.Failed CredentialTooLong) nowhere
   refused true e q = record { outcomes = refl; destinations = refl }
   refused false e q = absurd (clash q)
@@ -283,6 +287,7 @@ setting-up a user password =
     record {
       number = rw (answered a user password b)
           (checked b _ CredentialTooLong 5 Accepted [] refl (lit< tt) (long-just a (ltb 255 (length user)) (ltb 255 (length password)) (less-just 255 (length user)) (less-just 255 (length password))) all-passed);
+      empty = empty a user password b;
       refused = refused a user password b;
       accepted = waits a user password b;
     }

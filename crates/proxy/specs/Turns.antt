@@ -2,7 +2,7 @@
 use Prim.Native.Nat.{ℕ, _≤_, _<_}
 use mathlib.Core.Path.{_≡_}
 use mathlib.Core.Logic.{_⊎_}
-use mathlib.Core.Bool.{Bool, true}
+use mathlib.Core.Bool.{Bool, true, false}
 use mathlib.Core.List.{List, [], _∷_}
 use lib.ListN.{length, take}
 use Rattle.protocol.specs.declared.Answer.the-variants.{Accepted, Refused}
@@ -19,7 +19,7 @@ use Rattle.destinations.specs.declared.Target.{Target}
 use Rattle.serving_stages.specs.declared.Outcome.{Outcome}
 use Rattle.serving_stages.specs.declared.Outcome.the-variants.{Waiting, Asked, Open, Failed}
 use Rattle.proxy_calls.specs.declared.Server.{Server}
-use Rattle.proxy_calls.specs.Server.{outcome, destination}
+use Rattle.proxy_calls.specs.Server.{credentialOf, outcome, destination, fresh}
 use Rattle.proxy_calls.specs.Calls.{Call, refusal, setUp, deliver, answer, end}
 use Rattle.proxy.specs.Served.{handedOut}
 use Rattle.talk.specs.Tunnel.{Behind}
@@ -49,9 +49,11 @@ pub record Tells (s : Server) (how : Outcome) (where-to : Target) : Type 0 where
 abbrev pub nowhere : Target
 nowhere = handedOut unbound
 
--- set-up, with any arguments: 5 as in an opening, and no other number; a refused one comes back failed with it, an accepted one waits
+-- set-up, with any arguments: 5 as in an opening, and no other number; a refused one comes back empty, failed with it, an accepted one waits
 pub record SettingUp (authenticates : Bool) (user password : List ℕ) : Type 0 where
   pub number : Answers (answerNumber (setUp authenticates user password .answer)) ((((authenticates ≡ true) × ((255 < length user) ⊎ (255 < length password))) ↣ 5) ∷ [])
+  pub empty : (e : SocksError) → setUp authenticates user password .answer ≡ Refused e
+      → setUp authenticates user password .server ≡ fresh (stage.Failed CredentialTooLong) false (credentialOf []) (credentialOf [])
   pub refused : (e : SocksError) → setUp authenticates user password .answer ≡ Refused e → Tells (setUp authenticates user password .server) (Failed CredentialTooLong) nowhere
   pub accepted : setUp authenticates user password .answer ≡ Accepted → Tells (setUp authenticates user password .server) Waiting nowhere
 

@@ -60,11 +60,11 @@ module _ (os : List Opening) (r : Route) (sent : List ℕ) (ds : List Delivery) 
 
 -- ---- single calls
 
-abbrev shown : Route → Outcome × (Address × ℕ)
-shown r = (outcome r, (bound r, r .attempts))
+abbrev shown : Route → Outcome × (Address × (ℕ × ℕ))
+shown r = (outcome r, (bound r, (r .attempts, r .held)))
 
-same-shown : {r : Route} {how : Outcome} {at : Address} {tries : ℕ} → Tells r how at tries → shown r ≡ (how, (at, tries))
-same-shown w = λ i. (w .outcomes i, (w .bounds i, w .attempts i))
+same-shown : {r : Route} {how : Outcome} {at : Address} {tries held : ℕ} → Tells r how at tries held → shown r ≡ (how, (at, (tries, held)))
+same-shown w = λ i. (w .outcomes i, (w .bounds i, (w .attempts i, w .holds i)))
 
 module _ (room : ℕ) (r : Route) (t : InTurn room r) where
   -- a settled route refuses every call with 16, one that waits a delivery that lends too little with 1
@@ -86,7 +86,7 @@ module _ (room : ℕ) (r : Route) (t : InTurn room r) where
   empty-leaves out p = (omega (arith, t .nothing out p .0, t .nothing out p .1), same-shown (t .nothing-told out p))
 
   -- an end told by numbers: 9, no address, and the attempts that there were
-  pub ended-9 : end r .answer ≡ Accepted → (outcomeNumber (outcome (end r .session)) ≡ 9) × (shown (end r .session) ≡ (Failed UnexpectedEof, (noAddress, r .attempts)))
+  pub ended-9 : end r .answer ≡ Accepted → (outcomeNumber (outcome (end r .session)) ≡ 9) × (shown (end r .session) ≡ (Failed UnexpectedEof, (noAddress, (r .attempts, 0))))
   ended-9 p = (t .end-nine p, same-shown (t .end-fails p))
 
   -- no delivery writes behind what it sends
@@ -95,7 +95,7 @@ module _ (room : ℕ) (r : Route) (t : InTurn room r) where
 
 module _ (a : routing.Route) (out : List ℕ) (t : OpensInTurn a out) where
   -- a refused opening is failed, and leaves the output
-  pub refused-is : (e : SocksError) → opening a out .answer ≡ Refused e → (shown (opening a out .session) ≡ (Failed e, (noAddress, 0))) × (opening a out .sent ≡ 0) × (opening a out .output ≡ out)
+  pub refused-is : (e : SocksError) → opening a out .answer ≡ Refused e → (shown (opening a out .session) ≡ (Failed e, (noAddress, (0, 0)))) × (opening a out .sent ≡ 0) × (opening a out .output ≡ out)
   refused-is e q = (same-shown (t .fails e q), t .unsent e q, t .unwritten e q)
 
   -- one that meets no condition waits, and then refuses a delivery that lends less than it was lent itself must be

@@ -238,11 +238,14 @@ module _ (p : Proxy) (host : List ℕ) (port : Port) where
   unfolding opening check checkInTurn askedOf
   opening-one out h = rw (le-ltb (length out) 1024 h, unless-none (checkFor b))
 
-  pub single : Single p host port
-  single out h ds l = go (checkFor b) refl
+  as-single : Single p host port
+  as-single out h ds l = go (checkFor b) refl
     where
       go : (x : code.Answer) → checkFor b ≡ x → AsOne a b out ds
       go Accepted q =
           as-one One step-one ends-one a b out (rw (opening-one out h, prepared-as b, q) (opened-one (openingFor b) out h (limits-one q))) ds l
       go (Refused e) q =
           as-one (BothFailed e) (step-failed e) (ends-failed e) a b out (rw (opening-one out h, prepared-as b, q) (opened-failed (openingFor b) out e)) ds l
+
+pub single : (p : Proxy) (host : List ℕ) (port : Port) → Single p host port
+single = as-single

@@ -118,13 +118,13 @@ module _ (r : Route) where
         (λ q. stand-at Accepted _ _ (relayed (r .hops) (r .bytes) (behindIn r) s piece .sent) out (omega (arith, few, still-few (s .stage) (s .requests), leb-true (roomIn r) (length out) q)))
 
   -- an empty piece in turn leaves the session of the proxy that is spoken to as it is
-  nothing : (out : List ℕ) → deliver r [] out .answer ≡ Accepted → ((deliver r [] out .used ≡ 0) × (deliver r [] out .sent ≡ 0)) × Tells (deliver r [] out .session) (outcome r) (bound r) (r .attempts)
+  nothing : (out : List ℕ) → deliver r [] out .answer ≡ Accepted → ((deliver r [] out .used ≡ 0) × (deliver r [] out .sent ≡ 0)) × Tells (deliver r [] out .session) (outcome r) (bound r) (r .attempts) (r .held)
   nothing out p =
       let (v, c) = deliver-accepts [] out p in
       let n = relayed-none (r .hops) (r .bytes) (behindIn r) (sessionIn r) refl v in
-      subst (λ (k : Call). ((k .used ≡ 0) × (k .sent ≡ 0)) × Tells (k .session) (outcome r) (bound r) (r .attempts)) (sym c)
-      (subst (λ (q : Relay). ((q .used ≡ 0) × (length (q .sent) ≡ 0)) × Tells (withSession r (q .behind) (q .session)) (outcome r) (bound r) (r .attempts)) (sym n)
-      ((refl, refl), record { outcomes = refl; bounds = refl; attempts = refl }))
+      subst (λ (k : Call). ((k .used ≡ 0) × (k .sent ≡ 0)) × Tells (k .session) (outcome r) (bound r) (r .attempts) (r .held)) (sym c)
+      (subst (λ (q : Relay). ((q .used ≡ 0) × (length (q .sent) ≡ 0)) × Tells (withSession r (q .behind) (q .session)) (outcome r) (bound r) (r .attempts) (r .held)) (sym n)
+      ((refl, refl), record { outcomes = refl; bounds = refl; attempts = refl; holds = refl }))
 
   -- ---- an end
 
@@ -152,13 +152,13 @@ module _ (r : Route) where
       go true = refl
       go false = refl
 
-  end-fails : end r .answer ≡ Accepted → Tells (end r .session) (outcomes.Failed UnexpectedEof) noAddress (r .attempts)
+  end-fails : end r .answer ≡ Accepted → Tells (end r .session) (outcomes.Failed UnexpectedEof) noAddress (r .attempts) 0
   unfolding end session-calls.end
   end-fails = go (isOver r)
     where
-      go : (b : Bool) → ended (ending b) .answer ≡ Accepted → Tells (ended (ending b) .session) (outcomes.Failed UnexpectedEof) noAddress (r .attempts)
+      go : (b : Bool) → ended (ending b) .answer ≡ Accepted → Tells (ended (ending b) .session) (outcomes.Failed UnexpectedEof) noAddress (r .attempts) 0
       go true q = absurd (clash (sym q))
-      go false q = record { outcomes = refl; bounds = refl; attempts = refl }
+      go false q = record { outcomes = refl; bounds = refl; attempts = refl; holds = refl }
 
 in-turn : (room : ℕ) (r : Route) → roomIn r ≡ room → InTurn room r
 in-turn room r q =
@@ -181,14 +181,14 @@ any-in-turn r = (suc (lastIn (r .count)), omega arith, omega arith, in-turn (roo
 -- ---- opening: 21, then 1, then its openings' own numbers
 
 by-fails : (x : code.Answer) (os : List Opening) (out : List ℕ) (e : SocksError) → openBy x os out .answer ≡ Refused e
-    → Tells (openBy x os out .session) (outcomes.Failed e) noAddress 0 × (openBy x os out .sent ≡ 0) × (openBy x os out .output ≡ out)
-by-fails Accepted [] out e q = (record { outcomes = ap outcomes.Failed (same-error q); bounds = refl; attempts = refl }, refl, refl)
+    → Tells (openBy x os out .session) (outcomes.Failed e) noAddress 0 0 × (openBy x os out .sent ≡ 0) × (openBy x os out .output ≡ out)
+by-fails Accepted [] out e q = (record { outcomes = ap outcomes.Failed (same-error q); bounds = refl; attempts = refl; holds = refl }, refl, refl)
 by-fails Accepted (o ∷ os) out e q = absurd (clash q)
-by-fails (Refused d) os out e q = (record { outcomes = ap outcomes.Failed (same-error q); bounds = refl; attempts = refl }, refl, refl)
+by-fails (Refused d) os out e q = (record { outcomes = ap outcomes.Failed (same-error q); bounds = refl; attempts = refl; holds = refl }, refl, refl)
 
-by-waiting : (x : code.Answer) (os : List Opening) (out : List ℕ) → openBy x os out .answer ≡ Accepted → Tells (openBy x os out .session) outcomes.Waiting noAddress 0
+by-waiting : (x : code.Answer) (os : List Opening) (out : List ℕ) → openBy x os out .answer ≡ Accepted → Tells (openBy x os out .session) outcomes.Waiting noAddress 0 0
 by-waiting Accepted [] out q = absurd (clash (sym q))
-by-waiting Accepted (o ∷ os) out q = record { outcomes = refl; bounds = refl; attempts = refl }
+by-waiting Accepted (o ∷ os) out q = record { outcomes = refl; bounds = refl; attempts = refl; holds = refl }
 by-waiting (Refused d) os out q = absurd (clash (sym q))
 
 by-behind : (x : code.Answer) (os : List Opening) (out : List ℕ) → (x ≡ Accepted → 1024 ≤ length out) → Behind (openBy x os out) out
@@ -212,11 +212,11 @@ room-on n [] r = refl
 room-on n (d ∷ ds) r = room-on n ds (deliver r (d .piece) (d .output) .session) ∙ room-stays r (d .piece) (d .output)
 
 module _ (a : routing.Route) (out : List ℕ) where
-  opening-fails : (e : SocksError) → opening a out .answer ≡ Refused e → Tells (opening a out .session) (outcomes.Failed e) noAddress 0 × (opening a out .sent ≡ 0) × (opening a out .output ≡ out)
+  opening-fails : (e : SocksError) → opening a out .answer ≡ Refused e → Tells (opening a out .session) (outcomes.Failed e) noAddress 0 0 × (opening a out .sent ≡ 0) × (opening a out .output ≡ out)
   unfolding opening
   opening-fails = by-fails (check a (length out)) (openings a) out
 
-  opening-waits : opening a out .answer ≡ Accepted → Tells (opening a out .session) outcomes.Waiting noAddress 0
+  opening-waits : opening a out .answer ≡ Accepted → Tells (opening a out .session) outcomes.Waiting noAddress 0 0
   unfolding opening
   opening-waits = by-waiting (check a (length out)) (openings a) out
 
@@ -224,8 +224,8 @@ module _ (a : routing.Route) (out : List ℕ) where
   unfolding opening
   opening-behind = by-behind (check a (length out)) (openings a) out (λ q. let w = accepted-has a (length out) q in omega (arith, w .some, w .room))
 
-  pub opens-in-turn : OpensInTurn a out
-  opens-in-turn =
+  opens-so : OpensInTurn a out
+  opens-so =
       record {
         number = rw (opening-answers a out) (check-just a (length out));
         fails = λ e q. opening-fails e q .0;
@@ -235,6 +235,9 @@ module _ (a : routing.Route) (out : List ℕ) where
         asks = λ q ds. in-turn (roomFor (length (openings a))) _ (room-on (roomFor (length (openings a))) ds (opening a out .session) ∙ opened-asks a out q);
         behind = opening-behind;
       }
+
+pub opens-in-turn : (a : routing.Route) (out : List ℕ) → OpensInTurn a out
+opens-in-turn = opens-so
 
 -- F-4: 11 is not met by any opening, delivery or end of a route
 without-11 : (c : Call) → Without 11 c

@@ -19,11 +19,12 @@ use Rattle.route_calls.specs.Calls.{Call, refusal, outcome, bound, opening, del
 use Rattle.route.specs.Routed.{tunnelOf}
 use Rattle.talk.specs.Tunnel.{Delivery, Behind}
 
--- what is told of a route
-pub record Tells (r : Route) (how : Outcome) (at : Address) (tries : ℕ) : Type 0 where
+-- what is told of a route, and how many bytes it holds
+pub record Tells (r : Route) (how : Outcome) (at : Address) (tries held : ℕ) : Type 0 where
   pub outcomes : outcome r ≡ how
   pub bounds : bound r ≡ at
   pub attempts : r .attempts ≡ tries
+  pub holds : r .held ≡ held
 
 -- ---- a delivery and an end
 
@@ -40,9 +41,9 @@ pub record InTurn (room : ℕ) (r : Route) : Type 0 where
   pub end-untouched : Untouched (end r) r []
   -- an empty piece in turn uses and sends nothing, and changes nothing that is told
   pub nothing : (out : List ℕ) → deliver r [] out .answer ≡ Accepted → (deliver r [] out .used ≡ 0) × (deliver r [] out .sent ≡ 0)
-  pub nothing-told : (out : List ℕ) → deliver r [] out .answer ≡ Accepted → Tells (deliver r [] out .session) (outcome r) (bound r) (r .attempts)
+  pub nothing-told : (out : List ℕ) → deliver r [] out .answer ≡ Accepted → Tells (deliver r [] out .session) (outcome r) (bound r) (r .attempts) (r .held)
   -- an accepted end: 9
-  pub end-fails : end r .answer ≡ Accepted → Tells (end r .session) (Failed UnexpectedEof) noAddress (r .attempts)
+  pub end-fails : end r .answer ≡ Accepted → Tells (end r .session) (Failed UnexpectedEof) noAddress (r .attempts) 0
   pub end-nine : end r .answer ≡ Accepted → outcomeNumber (outcome (end r .session)) ≡ 9
   -- the bytes behind what is sent are as they were
   pub deliver-behind : (piece out : List ℕ) → Behind (deliver r piece out) out
@@ -57,11 +58,11 @@ pub record OpensInTurn (a : routing.Route) (out : List ℕ) : Type 0 where
   -- each number comes exactly when its condition holds and none before it
   pub number : Answers (answerNumber (opening a out .answer)) (conditions a (length out))
   -- a refused one sends and writes nothing, and comes back failed with that number
-  pub fails : (e : SocksError) → opening a out .answer ≡ Refused e → Tells (opening a out .session) (Failed e) noAddress 0
+  pub fails : (e : SocksError) → opening a out .answer ≡ Refused e → Tells (opening a out .session) (Failed e) noAddress 0 0
   pub unsent : (e : SocksError) → opening a out .answer ≡ Refused e → opening a out .sent ≡ 0
   pub unwritten : (e : SocksError) → opening a out .answer ≡ Refused e → opening a out .output ≡ out
   -- an accepted one waits, and asks for as much output of a delivery, behind every list of deliveries
-  pub waits : opening a out .answer ≡ Accepted → Tells (opening a out .session) Waiting noAddress 0
+  pub waits : opening a out .answer ≡ Accepted → Tells (opening a out .session) Waiting noAddress 0 0
   pub asks : opening a out .answer ≡ Accepted → (ds : List Delivery) → InTurn (roomFor (length (openings a))) (tunnelOf (openings a) (opening a out .session) [] ds .session)
   -- the bytes behind what is sent are as they were
   pub behind : Behind (opening a out) out

@@ -26,12 +26,15 @@ module _ (s : Session) (piece out : List ℕ) where
   taken [] = λ i h. refl
   taken (b ∷ bs) = behind (holdsOf (onward (sideOf s) (view s) (b ∷ bs) .session)) (s .hold)
 
-  pub hold-stays : HoldStays s (deliver s piece out .session)
+  delivered-stays : HoldStays s (deliver s piece out .session)
   unfolding deliver
-  hold-stays = go (isOver (view s)) (s .started) (leb (roomAt (s .stage)) (length out))
+  delivered-stays = go (isOver (view s)) (s .started) (leb (roomAt (s .stage)) (length out))
     where
       go : (a g b : Bool) → HoldStays s (cond a (refusal Settled s out) (cond (not g) (refusal OutOfOrder s out) (cond b (takes s piece out) (refusal ShortOutput s out))) .session)
       go true g b = λ i h. refl
       go false false b = λ i h. refl
       go false true true = taken piece
       go false true false = λ i h. refl
+
+pub hold-stays : (s : Session) (piece out : List ℕ) → HoldStays s (deliver s piece out .session)
+hold-stays = delivered-stays

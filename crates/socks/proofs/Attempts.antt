@@ -26,7 +26,7 @@ use Rattle.session.specs.Session.{view, heldBytes, roomAt}
 use Rattle.session.specs.Calls.{Call, refusal, takes, deliver, start, preparedBy, prepare5, prepare4}
 use Rattle.socks.specs.Demand3.{receiver}
 use Rattle.protocol.specs.Bytes.{BytePieces}
-use Rattle.socks.specs.Attempts.{oneIf, isWaiting, isAccepted, hasByte, lendsFor, counts, attemptsAt, attemptsOf, acceptedIn, Effort, Tried}
+use Rattle.socks.specs.Attempts.{oneIf, isWaiting, isAccepted, hasByte, lendsFor, counts, attemptsAt, attemptsOf, acceptedIn, heldOf, heldOn, Effort, Tried}
 use Rattle.protocol.proofs.Openings.{clash}
 use Rattle.socks.proofs.InTwo.{start-begins}
 use Rattle.socks.proofs.Tunnels.{Stands, asks-same, step}
@@ -36,7 +36,7 @@ use Rattle.talk.specs.Talk.{Side, SessionOf, waiting, ended, isOver, onward, fe
 use Rattle.talk.specs.Tunnel as side
 use Rattle.talk.specs.Tunnel.{Delivery, answerTo, after, joined}
 use Rattle.talk.specs.Attempts.{decidedBy, oneIfWaiting, attemptsBy}
-use Rattle.talk.proofs.Feed.{feed-append, feed-still}
+use Rattle.talk.proofs.Feed.{feed-append, feed-still, feed-exact}
 use Rattle.talk.proofs.Deliveries.{lent, unlent}
 use Rattle.talk.proofs.Attempts.{decided-append}
 
@@ -213,6 +213,18 @@ module _ (o : Opening) where
   stands-all (d ∷ ds) s before t =
       rw (append-assoc before (cond (lendsFor o d) (d .piece) []) (joined (receiver (deliveryRoom o)) ds)) at (stands-all ds (answered s d) (joinedWith before d) (stands-on s before d t))
 
+  -- what is held there
+  holds-as : (bs : List ℕ) → length (holdsOf (fedWith bs)) ≡ heldOn (machine o bs) bs
+  holds-as bs = rw (machine-feed o bs) (go (fedWith bs) refl)
+    where
+      go : (m : SideSession) → fedWith bs ≡ m → length (holdsOf m) ≡ heldOf (client.outcomeOf m) (client.boundIn m) (feed N (client.begun o) bs .place) (length bs)
+      go (waiting e h) q =
+          let x = feed-exact N (client-lawful (client.kept o)) (client.begun o) bs (ap isOver q) in
+          let l = ap (λ (m : SideSession). length (talk.heldBy m)) q in
+          omega (arith, x, l)
+      go (ended (talk.done y)) q = refl
+      go (ended (talk.failed e)) q = refl
+
   effort : (s : Session) → StandsAt s [] → s .attempts ≡ 0 → (ds : List Delivery) → BytePieces ds → Effort o s ds
   effort s t z ds y =
       let e = attempts-on ds s [] 0 t (z ∙ omega arith) in
@@ -220,6 +232,7 @@ module _ (o : Opening) where
       record {
         attempts-are = rw k at e;
         attempts-few = omega (arith, few-on ds s [] t);
+        held-are = stands-all ds s [] t .exact ∙ holds-as (joined (receiver (deliveryRoom o)) ds);
         held-few = rw (stands-all ds s [] t .exact) (begun-held o (joined (receiver (deliveryRoom o)) ds) (joined-bytes (receiver (deliveryRoom o)) ds y));
       }
 

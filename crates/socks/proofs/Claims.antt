@@ -31,9 +31,9 @@ use Rattle.session.specs.Session.{outcome, bound, writeBound}
 use Rattle.session.specs.Calls.{Call, start, deliver, end}
 use Rattle.socks.specs.Demand3.{tunnelOf, joinedOf, Demand3}
 use Rattle.socks.specs.Turns.{Tells, noAddress, Preparing, InTurn, Asking}
-use Rattle.socks.specs.Attempts.{receiverOf, acceptedIn, Effort}
+use Rattle.socks.specs.Attempts.{receiverOf, acceptedIn, heldOf, Effort}
 use Rattle.socks.specs.InTwo.{inTwo, InTwo}
-use Rattle.talk.specs.Tunnel.{Delivery, after, Tunnel}
+use Rattle.talk.specs.Tunnel.{Delivery, after, joined, Tunnel}
 use Rattle.talk.specs.Lawful.{Begins}
 
 -- ---- demand 3
@@ -174,6 +174,10 @@ module _ (o : Opening) (s : Session) (ds : List Delivery) (t : Effort o s ds) wh
 
   pub held-fits : after (receiverOf o) s ds .held < 262
   held-fits = omega (arith, t .held-few)
+
+  -- one that has failed holds nothing
+  pub failed-holds : (e : SocksError) → machine o (joined (receiverOf o) ds) .outcome ≡ Failed e → after (receiverOf o) s ds .held ≡ 0
+  failed-holds e q = let m = machine o (joined (receiverOf o) ds) in t .held-are ∙ ap (λ (x : Outcome). heldOf x (m .bound) (m .place) (length (joined (receiverOf o) ds))) q
 
 -- ---- F-7: what both accept they accept alike, and what neither refuses both accept
 

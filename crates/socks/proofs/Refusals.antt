@@ -52,26 +52,24 @@ prepares x o cs a =
     fails Accepted e p = absurd (clash p)
     fails (Refused d) e p = record { outcomes = ap Failed (same-error p); bounds = refl; attempts = refl; holds = refl }
 
-module _ (a : V5) where
-  pub preparing5 : Preparing (prepare5 a) (conditions5 a)
-  unfolding prepare5
-  preparing5 = prepares (check5 a) (opening5 a) (conditions5 a) (check5-just a)
+pub preparing5 : (a : V5) → Preparing (prepare5 a) (conditions5 a)
+unfolding prepare5
+preparing5 a = prepares (check5 a) (opening5 a) (conditions5 a) (check5-just a)
 
-  -- the lookup's list changes nothing unless local lookup is on and the host is a name
-  pub prepare5-lookup : (rs : List Record) → ((a .config .«local_dns» ≡ true) × Name (strip (a .host)) → ⊥)
-      → prepare5 (record { config = a .config; host = a .host; port = a .port; user = a .user; password = a .password; records = rs }) ≡ prepare5 a
-  unfolding prepare5
-  prepare5-lookup rs n = let l = lookup5 a rs n in rw (l .0, l .1)
+pub preparing4 : (a : V4) → Preparing (prepare4 a) (conditions4 a)
+unfolding prepare4
+preparing4 a = prepares (check4 a) (opening4 a) (conditions4 a) (check4-just a)
 
-module _ (a : V4) where
-  pub preparing4 : Preparing (prepare4 a) (conditions4 a)
-  unfolding prepare4
-  preparing4 = prepares (check4 a) (opening4 a) (conditions4 a) (check4-just a)
+-- the lookup's list changes nothing unless local lookup is on and the host is a name
+pub prepare5-lookup : (a : V5) (rs : List Record) → ((a .config .«local_dns» ≡ true) × Name (strip (a .host)) → ⊥)
+    → prepare5 (record { config = a .config; host = a .host; port = a .port; user = a .user; password = a .password; records = rs }) ≡ prepare5 a
+unfolding prepare5
+prepare5-lookup a rs n = let l = lookup5 a rs n in rw (l .0, l .1)
 
-  pub prepare4-lookup : (rs : List Record) → ((a .localDns ≡ true) × Name (strip (a .host)) → ⊥)
-      → prepare4 (record { localDns = a .localDns; host = a .host; port = a .port; records = rs }) ≡ prepare4 a
-  unfolding prepare4
-  prepare4-lookup rs n = let l = lookup4 a rs n in rw (l .0, l .1)
+pub prepare4-lookup : (a : V4) (rs : List Record) → ((a .localDns ≡ true) × Name (strip (a .host)) → ⊥)
+    → prepare4 (record { localDns = a .localDns; host = a .host; port = a .port; records = rs }) ≡ prepare4 a
+unfolding prepare4
+prepare4-lookup a rs n = let l = lookup4 a rs n in rw (l .0, l .1)
 
 -- F-4: 11 is not met by any preparing, start, delivery or end, for any arguments and any session value
 without-11 : (c : Call) → Without 11 c

@@ -10,12 +10,13 @@ use Rattle.protocol.specs.declared.Answer.the-variants.{Accepted, Refused}
 use Rattle.protocol.specs.declared.Outcome.{Outcome}
 use Rattle.protocol.specs.declared.Outcome.the-variants.{Waiting, Open, Failed}
 use Rattle.protocol.specs.Opening.{Opening, deliveryRoom}
-use Rattle.protocol.specs.Machine.{machine, decidedOn}
+use Rattle.protocol.specs.Bound.{Endpoint, bytesIn}
+use Rattle.protocol.specs.Machine.{Machine, machine, decidedOn}
 use Rattle.session.specs.declared.Session.{Session}
 use Rattle.session.specs.declared.Prepared.{Prepared}
 use Rattle.session.specs.Calls.{start, deliver}
 use Rattle.protocol.specs.Bytes.{BytePieces}
-use Rattle.talk.specs.Tunnel.{Receiver, Delivery, lends, answerTo, after}
+use Rattle.talk.specs.Tunnel.{Receiver, Delivery, lends, answerTo, after, joined}
 
 abbrev pub oneIf : Bool → ℕ
 oneIf b = cond b 1 0
@@ -59,13 +60,23 @@ acceptedIn o s (d ∷ ds) =
     let a = answerTo (receiverOf o) s d in
     oneIf (isAccepted (a .answer) && hasByte d) + acceptedIn o (a .session) ds
 
+-- how many bytes are held: of a reply that is not decided what has come of it; once open those of the bound address; once failed none
+abbrev pub heldOf : Outcome → Endpoint → ℕ → ℕ → ℕ
+heldOf Waiting x place n = n - place
+heldOf Open x place n = length (bytesIn (x .address))
+heldOf (Failed e) x place n = 0
+
+abbrev pub heldOn : Machine → List ℕ → ℕ
+heldOn m bs = heldOf (m .outcome) (m .bound) (m .place) (length bs)
+
 -- of an opening and the session that its start returned
 pub record Effort (o : Opening) (s : Session) (ds : List Delivery) : Type 0 where
   -- the session carries that number; it wraps past what any list of deliveries reaches
   pub attempts-are : after (receiverOf o) s ds .attempts ≡ attemptsOf o [] ds % 2 ^ 64
   -- and that number is at most the accepted nonempty deliveries plus three
   pub attempts-few : attemptsOf o [] ds ≤ acceptedIn o s ds + 3
-  -- and the held bytes are never more than 261
+  -- the held bytes are those, and never more than 261
+  pub held-are : after (receiverOf o) s ds .held ≡ heldOn (machine o (joined (receiverOf o) ds)) (joined (receiverOf o) ds)
   pub held-few : after (receiverOf o) s ds .held ≤ 261
 
 -- for what preparing returned, any output with which it is started, and every list of deliveries
