@@ -9,29 +9,8 @@ use Rattle.addresses.proofs.read_address.Tie as tie
 told : (c : tie.After-read-ipv4) → Read4 (ipv4Of (c .before .before .before .before .args .text .now)) (c .read-ipv4 .result .bytes) (c .read-ipv4 .result .kind)
 told c = rw (c .read-ipv4 .ensures) (read4 (ipv4Of (c .before .before .before .before .args .text .now)))
 
-lacks-mark-requires : tie.Need-lacks-mark-requires
-lacks-mark-requires c κs = search needs
-
-no-address-requires : tie.Need-no-address-requires
-no-address-requires c κs = search needs
-
 returns : tie.Need-returns
 returns c = rw (c .before .before .lacks-mark .ensures (c .before .if1 .taken)) (c .no-address .ensures)
-
-read-ipv4-requires : tie.Need-read-ipv4-requires
-read-ipv4-requires c κs = search needs
-
-enum-told : tie.Need-enum-told
-enum-told c = search needs
-
-enum-told-2 : tie.Need-enum-told-2
-enum-told-2 c = search needs
-
-enum-told-3 : tie.Need-enum-told-3
-enum-told-3 c = search needs
-
-read-ipv6-requires : tie.Need-read-ipv6-requires
-read-ipv6-requires c κs = search needs
 
 returns-2 : tie.Need-returns-2
 unfolding destinationOf
@@ -53,14 +32,14 @@ pub read-address-spec : {M : Type 1} → statement M
 read-address-spec =
     tie.close
     (tie.spec
-    lacks-mark-requires
-    no-address-requires
+    (λ c κs. search needs)
+    (λ c κs. search needs)
     returns
-    read-ipv4-requires
-    enum-told
-    enum-told-2
-    enum-told-3
-    read-ipv6-requires
+    (λ c κs. search needs)
+    (λ c. search needs)
+    (λ c. search needs)
+    (λ c. search needs)
+    (λ c κs. search needs)
     returns-2
     returns-3
     returns-4)

@@ -7,20 +7,11 @@ use borrow.Author.Needs.{needs}
 use Rattle.bound.proofs.address.Statement.{statement}
 use Rattle.bound.proofs.address.Tie as tie
 
-least-requires : tie.Need-least-requires
-least-requires c κs = search needs
-
-slice-aggregate-copy : tie.Need-slice-aggregate-copy
-slice-aggregate-copy c = search needs
-
 slice-aggregate-copy-2 : tie.Need-slice-aggregate-copy-2
 slice-aggregate-copy-2 c = let e = c .before .before .least .ensures in sym (length-take-le _ _ (omega arith))
 
 copy-requires : tie.Need-copy-requires
 copy-requires c κs = let e = c .before .before .least .ensures in omega (arith, length-take (c .before .before .least .result) (c .before .before .before .before .args .held .now))
-
-cast-t11 : tie.Need-cast-t11
-cast-t11 c = search needs
 
 returns : tie.Need-returns
 returns c = let a = c .before .before .before .before .before .before .args in address-is (a .bound) (a .held .now) (c .before .before .before .before .least .ensures) refl (c .before .copy .ensures)
@@ -29,9 +20,9 @@ pub address-spec : {M : Type 1} → statement M
 address-spec =
     tie.close
     (tie.spec
-    least-requires
-    slice-aggregate-copy
+    (λ c κs. search needs)
+    (λ c. search needs)
     slice-aggregate-copy-2
     copy-requires
-    cast-t11
+    (λ c. search needs)
     returns)

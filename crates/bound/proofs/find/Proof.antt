@@ -2,26 +2,14 @@ use borrow.Author.Needs.{needs}
 use Rattle.bound.proofs.find.Statement.{statement}
 use Rattle.bound.proofs.find.Tie as tie
 
-enum-known-reply : tie.Need-enum-known-reply
-enum-known-reply c = search needs
-
 in-proxy-res-requires : tie.Need-in-proxy-res-requires
 in-proxy-res-requires c κs = rw (c .before .reply .given .1) at (c .before .before .before .before .before .pre)
-
-enum-told : tie.Need-enum-told
-enum-told c = search needs
 
 in-proxy-res-requires-2 : tie.Need-in-proxy-res-requires-2
 in-proxy-res-requires-2 c κs = rw (c .enum-told .given .1) at (c .before .before .before .before .pre)
 
-enum-told-2 : tie.Need-enum-told-2
-enum-told-2 c = search needs
-
 in-proxy-res-requires-3 : tie.Need-in-proxy-res-requires-3
 in-proxy-res-requires-3 c κs = rw (c .enum-told2 .given .1) at (c .before .before .before .before .pre)
-
-enum-told-3 : tie.Need-enum-told-3
-enum-told-3 c = search needs
 
 in-response-requires : tie.Need-in-response-requires
 in-response-requires c κs = rw (c .enum-told3 .given .1) at (c .before .before .before .before .pre)
@@ -42,13 +30,13 @@ pub find-spec : {M : Type 1} → statement M
 find-spec =
     tie.close
     (tie.spec
-    enum-known-reply
+    (λ c. search needs)
     in-proxy-res-requires
-    enum-told
+    (λ c. search needs)
     in-proxy-res-requires-2
-    enum-told-2
+    (λ c. search needs)
     in-proxy-res-requires-3
-    enum-told-3
+    (λ c. search needs)
     in-response-requires
     returns
     returns-2

@@ -18,30 +18,6 @@ found c =
     let p = start .pre in
     found-at (a .reply) (a .hold .now) (a .piece .now) (a .n) (a .at) (c .before .before .before .before .least .result) (omega arith) (c .before .before .before .before .least .ensures) (c .find .ensures)
 
-least-requires : tie.Need-least-requires
-least-requires c κs = search needs
-
-sub-b : tie.Need-sub-b
-sub-b c = search needs
-
-sub-find : tie.Need-sub-find
-sub-find c = search needs
-
-part-find-start : tie.Need-part-find-start
-part-find-start c = search needs
-
-part-find-end : tie.Need-part-find-end
-part-find-end c = search needs
-
-sub-find-2 : tie.Need-sub-find-2
-sub-find-2 c = search needs
-
-part-find-start-2 : tie.Need-part-find-start-2
-part-find-start-2 c = search needs
-
-part-find-end-2 : tie.Need-part-find-end-2
-part-find-end-2 c = search needs
-
 find-requires : tie.Need-find-requires
 find-requires c κs =
     let start = c .before .before .before .before .before .before in
@@ -58,9 +34,6 @@ keep-found-requires c κs =
     let s = f .small in
     (omega arith, omega arith, found-inside (a .hold .now) (a .piece .now) (a .n) (a .at) (omega arith) f (p .2))
 
-same-length : tie.Need-same-length
-same-length c = search needs
-
 returns : tie.Need-returns
 returns c = c .before .before .keep-found .ensures _ _ (found (c .before .before .before .before))
 
@@ -68,15 +41,15 @@ pub keep-spec : {M : Type 1} → statement M
 keep-spec =
     tie.close
     (tie.spec
-    least-requires
-    sub-b
-    sub-find
-    part-find-start
-    part-find-end
-    sub-find-2
-    part-find-start-2
-    part-find-end-2
+    (λ c κs. search needs)
+    (λ c. search needs)
+    (λ c. search needs)
+    (λ c. search needs)
+    (λ c. search needs)
+    (λ c. search needs)
+    (λ c. search needs)
+    (λ c. search needs)
     find-requires
     keep-found-requires
-    same-length
+    (λ c. search needs)
     returns)

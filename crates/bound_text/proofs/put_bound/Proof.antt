@@ -28,17 +28,11 @@ part c =
 told : (c : tie.After-size-of) → textOf (kindOf (c .before .before .before .args .bound .kind) (take (c .size-of .result) (c .before .before .before .args .bound .bytes))) (c .before .before .before .args .bound .port) ≡ boundText (c .before .before .before .args .bound)
 told c = bound-text (c .before .before .before .args .bound) (c .size-of .result) (c .size-of .ensures)
 
-size-of-requires : tie.Need-size-of-requires
-size-of-requires c κs = search needs
-
 array-share-prefix-bytes : tie.Need-array-share-prefix-bytes
 array-share-prefix-bytes c = part c .inside
 
 slice-aggregate-put-text : tie.Need-slice-aggregate-put-text
 slice-aggregate-put-text c = sym (part (c .before) .count)
-
-slice-aggregate-put-text-2 : tie.Need-slice-aggregate-put-text-2
-slice-aggregate-put-text-2 c = search needs
 
 put-text-requires : tie.Need-put-text-requires
 put-text-requires c κs = let p = part (c .before .before) in (p .size, (p .most, search needs))
@@ -57,9 +51,6 @@ copy-requires c κs =
     let p = c .before .before .before .before .put-text in
     omega (arith, length-take-le (p .result) (p .last .1 .1 .1 .0) (omega (arith, p .ensures .0, p .ensures .1 .same)))
 
-same-length : tie.Need-same-length
-same-length c = search needs
-
 returns-2 : tie.Need-returns-2
 returns-2 c = (written (c .before .before .before .before .before .before .before .put-text .ensures .1) (told (c .before .before .before .before .before .before .before .before .before .before)) (c .before .before .copy .ensures), λ h. refl)
 
@@ -67,14 +58,14 @@ pub put-bound-spec : {M : Type 1} → statement M
 put-bound-spec =
     tie.close
     (tie.spec
-    size-of-requires
+    (λ c κs. search needs)
     array-share-prefix-bytes
     slice-aggregate-put-text
-    slice-aggregate-put-text-2
+    (λ c. search needs)
     put-text-requires
     returns
     array-share-prefix-whole
     slice-aggregate-copy
     copy-requires
-    same-length
+    (λ c. search needs)
     returns-2)

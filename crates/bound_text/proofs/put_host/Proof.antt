@@ -4,42 +4,21 @@ use borrow.Author.Needs.{needs}
 use Rattle.bound_text.proofs.put_host.Statement.{statement}
 use Rattle.bound_text.proofs.put_host.Tie as tie
 
-enum-told : tie.Need-enum-told
-enum-told c = search needs
-
 put-ipv4-requires : tie.Need-put-ipv4-requires
 put-ipv4-requires c κs = (rw (c .before .enum-told .given .1) at (c .before .before .before .before .before .pre .0), search needs)
 
-enum-told-2 : tie.Need-enum-told-2
-enum-told-2 c = search needs
-
 put-ipv6-requires : tie.Need-put-ipv6-requires
 put-ipv6-requires c κs = (rw (c .before .enum-told2 .given .1) at (c .before .before .before .before .before .pre .0), search needs)
-
-enum-told-3 : tie.Need-enum-told-3
-enum-told-3 c = search needs
-
-copy-requires : tie.Need-copy-requires
-copy-requires c κs = search needs
-
-same-length : tie.Need-same-length
-same-length c = search needs
 
 returns : tie.Need-returns
 returns c =
     let a = c .before .before .before .before .before .before .before .before .args in
     (search needs, rw (host-four (a .kind) (a .bytes .now) (c .before .before .before .before .enum-told .given .1)) (c .before .before .put-ipv4 .ensures .1))
 
-same-length-2 : tie.Need-same-length-2
-same-length-2 c = search needs
-
 returns-2 : tie.Need-returns-2
 returns-2 c =
     let a = c .before .before .before .before .before .before .before .before .args in
     (search needs, rw (host-six (a .kind) (a .bytes .now) (c .before .before .before .before .enum-told2 .given .1)) (c .before .before .put-ipv6 .ensures .1))
-
-same-length-3 : tie.Need-same-length-3
-same-length-3 c = search needs
 
 returns-3 : tie.Need-returns-3
 returns-3 c =
@@ -50,15 +29,15 @@ pub put-host-spec : {M : Type 1} → statement M
 put-host-spec =
     tie.close
     (tie.spec
-    enum-told
+    (λ c. search needs)
     put-ipv4-requires
-    enum-told-2
+    (λ c. search needs)
     put-ipv6-requires
-    enum-told-3
-    copy-requires
-    same-length
+    (λ c. search needs)
+    (λ c κs. search needs)
+    (λ c. search needs)
     returns
-    same-length-2
+    (λ c. search needs)
     returns-2
-    same-length-3
+    (λ c. search needs)
     returns-3)

@@ -6,26 +6,11 @@ use borrow.Author.Needs.{needs}
 use Rattle.bound_text.proofs.put_ipv6.Statement.{statement}
 use Rattle.bound_text.proofs.put_ipv6.Tie as tie
 
-groups-of-requires : tie.Need-groups-of-requires
-groups-of-requires c κs = search needs
-
-slice-write-out : tie.Need-slice-write-out
-slice-write-out c = search needs
-
-slice-aggregate-put-groups : tie.Need-slice-aggregate-put-groups
-slice-aggregate-put-groups c = search needs
-
-add-put-groups : tie.Need-add-put-groups
-add-put-groups c = search needs
-
 put-groups-requires : tie.Need-put-groups-requires
 put-groups-requires c κs = (c .before .before .groups-of .ensures .0, simp length-set (omega arith))
 
 slice-write-out-2 : tie.Need-slice-write-out-2
 slice-write-out-2 c = omega (arith, simp length-set at (c .before .before .put-groups .ensures .1 .same), c .before .before .put-groups .ensures .0)
-
-add-result : tie.Need-add-result
-add-result c = search needs
 
 same-length : tie.Need-same-length
 same-length c = simp length-set (omega (arith, simp length-set at (c .before .before .put-groups .ensures .1 .same)))
@@ -41,12 +26,12 @@ pub put-ipv6-spec : {M : Type 1} → statement M
 put-ipv6-spec =
     tie.close
     (tie.spec
-    groups-of-requires
-    slice-write-out
-    slice-aggregate-put-groups
-    add-put-groups
+    (λ c κs. search needs)
+    (λ c. search needs)
+    (λ c. search needs)
+    (λ c. search needs)
     put-groups-requires
     slice-write-out-2
-    add-result
+    (λ c. search needs)
     same-length
     returns)

@@ -8,18 +8,6 @@ use borrow.Author.Needs.{needs}
 use Rattle.bound_text.proofs.put_text.Statement.{statement}
 use Rattle.bound_text.proofs.put_text.Tie as tie
 
-put-host-requires : tie.Need-put-host-requires
-put-host-requires c κs = search needs
-
-slice-write-out : tie.Need-slice-write-out
-slice-write-out c = search needs
-
-wide-requires : tie.Need-wide-requires
-wide-requires c κs = search needs
-
-add-put-digits : tie.Need-add-put-digits
-add-put-digits c = search needs
-
 put-digits-requires : tie.Need-put-digits-requires
 put-digits-requires c κs =
     let h = c .before .before .before .before .put-host in
@@ -41,10 +29,10 @@ pub put-text-spec : {M : Type 1} → statement M
 put-text-spec =
     tie.close
     (tie.spec
-    put-host-requires
-    slice-write-out
-    wide-requires
-    add-put-digits
+    (λ c κs. search needs)
+    (λ c. search needs)
+    (λ c κs. search needs)
+    (λ c. search needs)
     put-digits-requires
     same-length
     returns)

@@ -4,27 +4,6 @@ use Rattle.checks.proofs.Laws.{checked4}
 use Rattle.checks.proofs.check4.Statement.{statement}
 use Rattle.checks.proofs.check4.Tie as tie
 
-refuse-if-requires : tie.Need-refuse-if-requires
-refuse-if-requires c κs = search needs
-
-is-name-requires : tie.Need-is-name-requires
-is-name-requires c κs = search needs
-
-finds-no-four-requires : tie.Need-finds-no-four-requires
-finds-no-four-requires c κs = search needs
-
-check-name-requires : tie.Need-check-name-requires
-check-name-requires c κs = search needs
-
-is-ipv6-requires : tie.Need-is-ipv6-requires
-is-ipv6-requires c κs = search needs
-
-refuse-if-requires-2 : tie.Need-refuse-if-requires-2
-refuse-if-requires-2 c κs = search needs
-
-check-shared-requires : tie.Need-check-shared-requires
-check-shared-requires c κs = search needs
-
 returns : tie.Need-returns
 returns c =
     let c4 = c .before .before .before .before in
@@ -35,11 +14,11 @@ pub check4-spec : {M : Type 1} → statement M
 check4-spec =
     tie.close
     (tie.spec
-    refuse-if-requires
-    is-name-requires
-    finds-no-four-requires
-    check-name-requires
-    is-ipv6-requires
-    refuse-if-requires-2
-    check-shared-requires
+    (λ c κs. search needs)
+    (λ c κs. search needs)
+    (λ c κs. search needs)
+    (λ c κs. search needs)
+    (λ c κs. search needs)
+    (λ c κs. search needs)
+    (λ c κs. search needs)
     returns)

@@ -4,24 +4,6 @@ use Rattle.checks.proofs.Laws.{checked5}
 use Rattle.checks.proofs.check5.Statement.{statement}
 use Rattle.checks.proofs.check5.Tie as tie
 
-is-name-requires : tie.Need-is-name-requires
-is-name-requires c κs = search needs
-
-finds-none-requires : tie.Need-finds-none-requires
-finds-none-requires c κs = search needs
-
-check-name-requires : tie.Need-check-name-requires
-check-name-requires c κs = search needs
-
-credentials-too-long-requires : tie.Need-credentials-too-long-requires
-credentials-too-long-requires c κs = search needs
-
-refuse-if-requires : tie.Need-refuse-if-requires
-refuse-if-requires c κs = search needs
-
-check-shared-requires : tie.Need-check-shared-requires
-check-shared-requires c κs = search needs
-
 returns : tie.Need-returns
 returns c =
     let c4 = c .before .before .before .before in
@@ -32,10 +14,10 @@ pub check5-spec : {M : Type 1} → statement M
 check5-spec =
     tie.close
     (tie.spec
-    is-name-requires
-    finds-none-requires
-    check-name-requires
-    credentials-too-long-requires
-    refuse-if-requires
-    check-shared-requires
+    (λ c κs. search needs)
+    (λ c κs. search needs)
+    (λ c κs. search needs)
+    (λ c κs. search needs)
+    (λ c κs. search needs)
+    (λ c κs. search needs)
     returns)

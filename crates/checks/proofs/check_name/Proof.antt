@@ -2,14 +2,8 @@ use borrow.Author.Needs.{needs}
 use Rattle.checks.proofs.check_name.Statement.{statement}
 use Rattle.checks.proofs.check_name.Tie as tie
 
-name-too-long-requires : tie.Need-name-too-long-requires
-name-too-long-requires c κs = search needs
-
 returns : tie.Need-returns
 returns c = rw (← c .before .name-too-long .ensures, c .if1 .taken)
-
-lookup-failed-requires : tie.Need-lookup-failed-requires
-lookup-failed-requires c κs = search needs
 
 returns-2 : tie.Need-returns-2
 returns-2 c = let c1 = c .before .before in rw (← c1 .before .name-too-long .ensures, c1 .if1 .left, ← c .before .lookup-failed .ensures, c .if2 .taken)
@@ -18,4 +12,8 @@ returns-3 : tie.Need-returns-3
 returns-3 c = let c1 = c .before .before in rw (← c1 .before .name-too-long .ensures, c1 .if1 .left, ← c .before .lookup-failed .ensures, c .if2 .left)
 
 pub check-name-spec : {M : Type 1} → statement M
-check-name-spec = tie.close (tie.spec name-too-long-requires returns lookup-failed-requires returns-2 returns-3)
+check-name-spec = tie.close (tie.spec
+    (λ c κs. search needs)
+    returns
+    (λ c κs. search needs)
+    returns-2 returns-3)

@@ -6,14 +6,8 @@ use Rattle.checks.proofs.check_shared.Tie as tie
 returns : tie.Need-returns
 returns c = simp (eq-eqb _ _ (c .if1 .taken))
 
-has-forbidden-requires : tie.Need-has-forbidden-requires
-has-forbidden-requires c κs = search needs
-
 returns-2 : tie.Need-returns-2
 returns-2 c = simp (ne-eqb _ _ (c .before .before .if1 .left), ← c .before .has-forbidden .ensures, c .if2 .taken)
-
-lacks-port-requires : tie.Need-lacks-port-requires
-lacks-port-requires c κs = search needs
 
 returns-3 : tie.Need-returns-3
 returns-3 c =
@@ -30,8 +24,8 @@ check-shared-spec =
     tie.close
     (tie.spec
     returns
-    has-forbidden-requires
+    (λ c κs. search needs)
     returns-2
-    lacks-port-requires
+    (λ c κs. search needs)
     returns-3
     returns-4)

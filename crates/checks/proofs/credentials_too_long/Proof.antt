@@ -9,8 +9,6 @@ returns c = rw (c .before .if1 .taken, lt-ltb _ _ (c .if2 .taken))
 returns-2 : tie.Need-returns-2
 returns-2 c = rw (c .before .if1 .taken, le-ltb _ _ (c .if2 .left))
 
-returns-3 : tie.Need-returns-3
-returns-3 c = search needs
-
 pub credentials-too-long-spec : {M : Type 1} → statement M
-credentials-too-long-spec = tie.close (tie.spec returns returns-2 returns-3)
+credentials-too-long-spec = tie.close (tie.spec returns returns-2
+    (λ c. search needs))

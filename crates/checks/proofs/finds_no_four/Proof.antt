@@ -8,12 +8,6 @@ returns : tie.Need-returns
 unfolding firstFour
 returns c = rw (not-true (c .before .before .args .chosen .found) (c .if1 .taken))
 
-enum-told : tie.Need-enum-told
-enum-told c = search needs
-
-enum-told-2 : tie.Need-enum-told-2
-enum-told-2 c = search needs
-
 returns-2 : tie.Need-returns-2
 unfolding firstFour
 returns-2 c = rw (not-false (c .before .before .before .before .before .args .chosen .found) (c .before .before .before .if1 .left), c .enum-told .given .1)
@@ -23,4 +17,7 @@ unfolding firstFour
 returns-3 c = rw (not-false (c .before .before .before .before .before .args .chosen .found) (c .before .before .before .if1 .left), c .enum-told2 .given .1)
 
 pub finds-no-four-spec : {M : Type 1} → statement M
-finds-no-four-spec = tie.close (tie.spec returns enum-told enum-told-2 returns-2 returns-3)
+finds-no-four-spec = tie.close (tie.spec returns
+    (λ c. search needs)
+    (λ c. search needs)
+    returns-2 returns-3)

@@ -2,11 +2,10 @@ use borrow.Author.Needs.{needs}
 use Rattle.checks.proofs.has_forbidden.Statement.{statement}
 use Rattle.checks.proofs.has_forbidden.Tie as tie
 
-all-allowed-requires : tie.Need-all-allowed-requires
-all-allowed-requires c κs = search needs
-
 returns : tie.Need-returns
 returns c = rw (c .all-allowed .ensures)
 
 pub has-forbidden-spec : {M : Type 1} → statement M
-has-forbidden-spec = tie.close (tie.spec all-allowed-requires returns)
+has-forbidden-spec = tie.close (tie.spec
+    (λ c κs. search needs)
+    returns)

@@ -5,8 +5,6 @@ use Rattle.checks.proofs.name_too_long.Tie as tie
 returns : tie.Need-returns
 returns c = rw (c .if1 .taken)
 
-returns-2 : tie.Need-returns-2
-returns-2 c = search needs
-
 pub name-too-long-spec : {M : Type 1} → statement M
-name-too-long-spec = tie.close (tie.spec returns returns-2)
+name-too-long-spec = tie.close (tie.spec returns
+    (λ c. search needs))

@@ -7,12 +7,6 @@ use borrow.Author.Needs.{needs}
 use Rattle.destinations.proofs.as_target.Statement.{statement}
 use Rattle.destinations.proofs.as_target.Tie as tie
 
-least-requires : tie.Need-least-requires
-least-requires c κs = search needs
-
-slice-aggregate-copy : tie.Need-slice-aggregate-copy
-slice-aggregate-copy c = search needs
-
 slice-aggregate-copy-2 : tie.Need-slice-aggregate-copy-2
 slice-aggregate-copy-2 c = let e = c .before .before .least .ensures in sym (length-take-le _ _ (omega arith))
 
@@ -25,4 +19,7 @@ returns c = let a = c .before .before .before .before .before .before .args in t
 pub as-target-spec : {M : Type 1} → statement M
 as-target-spec =
     tie.close
-    (tie.spec least-requires slice-aggregate-copy slice-aggregate-copy-2 copy-requires returns)
+    (tie.spec
+    (λ c κs. search needs)
+    (λ c. search needs)
+    slice-aggregate-copy-2 copy-requires returns)

@@ -5,26 +5,17 @@ use borrow.Author.Needs.{needs}
 use Rattle.destinations.proofs.find.Statement.{statement}
 use Rattle.destinations.proofs.find.Tie as tie
 
-enum-known-field : tie.Need-enum-known-field
-enum-known-field c = search needs
-
 find-name-requires : tie.Need-find-name-requires
 find-name-requires c κs = told-name _ _ _ (c .before .field .given .1) (c .before .before .before .before .before .pre)
 
 returns : tie.Need-returns
 returns c = rw (c .before .before .field .given .1) (c .find-name .ensures)
 
-enum-known-field-2 : tie.Need-enum-known-field-2
-enum-known-field-2 c = search needs
-
 find-address-requires : tie.Need-find-address-requires
 find-address-requires c κs = told-address _ _ _ _ (c .before .field2 .given .1) (c .before .before .before .before .before .before .pre)
 
 returns-2 : tie.Need-returns-2
 returns-2 c = rw (c .before .before .field2 .given .1) (c .find-address .ensures)
-
-stands-requires : tie.Need-stands-requires
-stands-requires c κs = search needs
 
 returns-3 : tie.Need-returns-3
 returns-3 c =
@@ -38,11 +29,11 @@ pub find-spec : {M : Type 1} → statement M
 find-spec =
     tie.close
     (tie.spec
-    enum-known-field
+    (λ c. search needs)
     find-name-requires
     returns
-    enum-known-field-2
+    (λ c. search needs)
     find-address-requires
     returns-2
-    stands-requires
+    (λ c κs. search needs)
     returns-3)

@@ -5,42 +5,15 @@ use borrow.Author.Needs.{needs}
 use Rattle.destinations.proofs.find_address.Statement.{statement}
 use Rattle.destinations.proofs.find_address.Tie as tie
 
-port-at-requires : tie.Need-port-at-requires
-port-at-requires c κs = search needs
-
-stands-requires : tie.Need-stands-requires
-stands-requires c κs = search needs
-
 returns : tie.Need-returns
 returns c =
     let start = c .before .before .before .before .before in
     finds-four (start .args .held .now ++ start .args .piece .now) (start .pre) (c .before .before .if1 .taken) (c .before .port-at .ensures) (c .stands .ensures)
 
-port-at-requires-2 : tie.Need-port-at-requires-2
-port-at-requires-2 c κs = search needs
-
-stands-requires-2 : tie.Need-stands-requires-2
-stands-requires-2 c κs = search needs
-
 returns-2 : tie.Need-returns-2
 returns-2 c =
     let start = c .before .before .before .before .before .before in
     finds-six (start .args .held .now ++ start .args .piece .now) (start .pre) (c .before .before .if2 .taken) (c .before .port-at2 .ensures) (c .stands2 .ensures)
-
-byte-requires : tie.Need-byte-requires
-byte-requires c κs = search needs
-
-wide-requires : tie.Need-wide-requires
-wide-requires c κs = search needs
-
-add-port-at : tie.Need-add-port-at
-add-port-at c = search needs
-
-port-at-requires-3 : tie.Need-port-at-requires-3
-port-at-requires-3 c κs = search needs
-
-stands-requires-3 : tie.Need-stands-requires-3
-stands-requires-3 c κs = search needs
 
 returns-3 : tie.Need-returns-3
 returns-3 c =
@@ -52,15 +25,15 @@ pub find-address-spec : {M : Type 1} → statement M
 find-address-spec =
     tie.close
     (tie.spec
-    port-at-requires
-    stands-requires
+    (λ c κs. search needs)
+    (λ c κs. search needs)
     returns
-    port-at-requires-2
-    stands-requires-2
+    (λ c κs. search needs)
+    (λ c κs. search needs)
     returns-2
-    byte-requires
-    wide-requires
-    add-port-at
-    port-at-requires-3
-    stands-requires-3
+    (λ c κs. search needs)
+    (λ c κs. search needs)
+    (λ c. search needs)
+    (λ c κs. search needs)
+    (λ c κs. search needs)
     returns-3)

@@ -5,16 +5,10 @@ use borrow.Author.Needs.{needs}
 use Rattle.destinations.proofs.find_name.Statement.{statement}
 use Rattle.destinations.proofs.find_name.Tie as tie
 
-add-stands : tie.Need-add-stands
-add-stands c = search needs
-
 sub-stands : tie.Need-sub-stands
 sub-stands c =
     let a = c .before .before .args in
     omega (arith, c .before .before .pre .0, length-append (a .held .now) (a .piece .now))
-
-stands-requires : tie.Need-stands-requires
-stands-requires c κs = search needs
 
 returns : tie.Need-returns
 returns c =
@@ -22,4 +16,8 @@ returns c =
     finds-name (start .args .held .now) (start .args .piece .now) (start .pre) (c .stands .ensures)
 
 pub find-name-spec : {M : Type 1} → statement M
-find-name-spec = tie.close (tie.spec add-stands sub-stands stands-requires returns)
+find-name-spec = tie.close (tie.spec
+    (λ c. search needs)
+    sub-stands
+    (λ c κs. search needs)
+    returns)

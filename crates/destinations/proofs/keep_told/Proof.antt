@@ -18,36 +18,6 @@ found c =
     let p = start .pre in
     found-in (a .field) (a .hold .now) (a .piece .now) (a .n) (a .begin) (a .end) (c .before .before .before .before .before .least .result) (c .before .before .before .before .least2 .result) (omega arith) (p .2) (p .3) (c .before .before .before .before .before .least .ensures) (c .before .before .before .before .least2 .ensures) (c .find .ensures)
 
-least-requires : tie.Need-least-requires
-least-requires c κs = search needs
-
-sub-b : tie.Need-sub-b
-sub-b c = search needs
-
-least-requires-2 : tie.Need-least-requires-2
-least-requires-2 c κs = search needs
-
-sub-d : tie.Need-sub-d
-sub-d c = search needs
-
-sub-find : tie.Need-sub-find
-sub-find c = search needs
-
-part-find-start : tie.Need-part-find-start
-part-find-start c = search needs
-
-part-find-end : tie.Need-part-find-end
-part-find-end c = search needs
-
-sub-find-2 : tie.Need-sub-find-2
-sub-find-2 c = search needs
-
-part-find-start-2 : tie.Need-part-find-start-2
-part-find-start-2 c = search needs
-
-part-find-end-2 : tie.Need-part-find-end-2
-part-find-end-2 c = search needs
-
 find-requires : tie.Need-find-requires
 find-requires c κs =
     let start = c .before .before .before .before .before .before .before in
@@ -64,9 +34,6 @@ keep-found-requires c κs =
     let s = f .small in
     (omega arith, omega arith, found-inside (a .hold .now) (a .piece .now) (a .n) (a .begin) (omega arith) f (omega arith))
 
-same-length : tie.Need-same-length
-same-length c = search needs
-
 returns : tie.Need-returns
 returns c = c .before .before .keep-found .ensures _ _ (found (c .before .before .before .before))
 
@@ -74,17 +41,17 @@ pub keep-told-spec : {M : Type 1} → statement M
 keep-told-spec =
     tie.close
     (tie.spec
-    least-requires
-    sub-b
-    least-requires-2
-    sub-d
-    sub-find
-    part-find-start
-    part-find-end
-    sub-find-2
-    part-find-start-2
-    part-find-end-2
+    (λ c κs. search needs)
+    (λ c. search needs)
+    (λ c κs. search needs)
+    (λ c. search needs)
+    (λ c. search needs)
+    (λ c. search needs)
+    (λ c. search needs)
+    (λ c. search needs)
+    (λ c. search needs)
+    (λ c. search needs)
     find-requires
     keep-found-requires
-    same-length
+    (λ c. search needs)
     returns)

@@ -15,23 +15,14 @@ returns-2 : tie.Need-returns-2
 unfolding followsAt
 returns-2 c = simp (ne-eqb _ _ (c .before .if1 .left), eq-eqb _ _ (c .if2 .taken))
 
-mark-at-requires : tie.Need-mark-at-requires
-mark-at-requires c κs = search needs
-
 returns-3 : tie.Need-returns-3
 unfolding followsAt
 returns-3 c = simp (ne-eqb _ _ (c .before .before .before .if1 .left), ne-eqb _ _ (c .before .before .if2 .left), ← c .before .mark-at .ensures, c .if3 .taken)
-
-mark-at-requires-2 : tie.Need-mark-at-requires-2
-mark-at-requires-2 c κs = search needs
 
 add-mark-at : tie.Need-add-mark-at
 add-mark-at c =
     let m = mark-is 0x3A _ _ (sym (c .before .mark-at2 .ensures) ∙ c .if4 .taken) .inside in
     omega arith
-
-mark-at-requires-3 : tie.Need-mark-at-requires-3
-mark-at-requires-3 c κs = search needs
 
 returns-4 : tie.Need-returns-4
 unfolding followsAt
@@ -51,11 +42,11 @@ follows-at-spec =
     (tie.spec
     returns
     returns-2
-    mark-at-requires
+    (λ c κs. search needs)
     returns-3
-    mark-at-requires-2
+    (λ c κs. search needs)
     add-mark-at
-    mark-at-requires-3
+    (λ c κs. search needs)
     returns-4
     returns-5
     returns-6)

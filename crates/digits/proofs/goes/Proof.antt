@@ -12,12 +12,6 @@ returns-2 : tie.Need-returns-2
 unfolding decimalGoes
 returns-2 c = simp (c .before .before .if1 .taken, lt-ltb _ _ (c .before .if2 .left), eq-eqb _ _ (c .if3 .taken))
 
-mul-result : tie.Need-mul-result
-mul-result c = search needs
-
-add-result : tie.Need-add-result
-add-result c = search needs
-
 returns-3 : tie.Need-returns-3
 unfolding decimalGoes
 returns-3 c = simp (c .before .before .if1 .taken, lt-ltb _ _ (c .before .if2 .left), ne-eqb _ _ (c .if3 .left))
@@ -32,4 +26,7 @@ returns-5 c = simp (c .before .if1 .left, lt-ltb _ _ (c .if4 .left))
 
 pub goes-spec : {M : Type 1} → statement M
 goes-spec =
-    tie.close (tie.spec returns returns-2 mul-result add-result returns-3 returns-4 returns-5)
+    tie.close (tie.spec returns returns-2
+    (λ c. search needs)
+    (λ c. search needs)
+    returns-3 returns-4 returns-5)

@@ -8,9 +8,6 @@ returns : tie.Need-returns
 unfolding hexValue
 returns c = simp (lt-ltb _ _ (c .if1 .taken))
 
-cast-result : tie.Need-cast-result
-cast-result c = search needs
-
 returns-2 : tie.Need-returns-2
 unfolding hexValue
 returns-2 c = simp (le-ltb _ _ (c .before .if1 .left), lt-ltb _ _ (c .if2 .taken))
@@ -19,12 +16,6 @@ returns-3 : tie.Need-returns-3
 unfolding hexValue
 returns-3 c = simp (le-ltb _ _ (c .before .before .if1 .left), le-ltb _ _ (c .before .if2 .left), lt-ltb _ _ (c .if3 .taken))
 
-sub-result : tie.Need-sub-result
-sub-result c = search needs
-
-cast-result-2 : tie.Need-cast-result-2
-cast-result-2 c = search needs
-
 returns-4 : tie.Need-returns-4
 unfolding hexValue
 returns-4 c = simp (le-ltb _ _ (c .before .before .before .if1 .left), le-ltb _ _ (c .before .before .if2 .left), le-ltb _ _ (c .before .if3 .left), lt-ltb _ _ (c .if4 .taken))
@@ -32,12 +23,6 @@ returns-4 c = simp (le-ltb _ _ (c .before .before .before .if1 .left), le-ltb _ 
 returns-5 : tie.Need-returns-5
 unfolding hexValue
 returns-5 c = simp (le-ltb _ _ (c .before .before .before .before .if1 .left), le-ltb _ _ (c .before .before .before .if2 .left), le-ltb _ _ (c .before .before .if3 .left), le-ltb _ _ (c .before .if4 .left), lt-ltb _ _ (c .if5 .taken))
-
-sub-result-2 : tie.Need-sub-result-2
-sub-result-2 c = search needs
-
-cast-result-3 : tie.Need-cast-result-3
-cast-result-3 c = search needs
 
 returns-6 : tie.Need-returns-6
 unfolding hexValue
@@ -52,14 +37,14 @@ hex-value-spec =
     tie.close
     (tie.spec
     returns
-    cast-result
+    (λ c. search needs)
     returns-2
     returns-3
-    sub-result
-    cast-result-2
+    (λ c. search needs)
+    (λ c. search needs)
     returns-4
     returns-5
-    sub-result-2
-    cast-result-3
+    (λ c. search needs)
+    (λ c. search needs)
     returns-6
     returns-7)

@@ -8,9 +8,6 @@ returns : tie.Need-returns
 unfolding markAt
 returns c = simp (eq-eqb _ _ (c .if1 .taken))
 
-shared-slice-read-result : tie.Need-shared-slice-read-result
-shared-slice-read-result c = search needs
-
 returns-2 : tie.Need-returns-2
 unfolding markAt
 returns-2 c = simp (ne-eqb _ _ (c .before .before .if1 .left), lt-ltb _ _ (c .before .if2 .taken))
@@ -20,4 +17,6 @@ unfolding markAt
 returns-3 c = simp (ne-eqb _ _ (c .before .if1 .left), le-ltb _ _ (c .if2 .left))
 
 pub mark-at-spec : {M : Type 1} → statement M
-mark-at-spec = tie.close (tie.spec returns shared-slice-read-result returns-2 returns-3)
+mark-at-spec = tie.close (tie.spec returns
+    (λ c. search needs)
+    returns-2 returns-3)

@@ -8,15 +8,6 @@ returns : tie.Need-returns
 unfolding pieceOf
 returns c = (rw (c .if1 .taken), search needs)
 
-draw-requires : tie.Need-draw-requires
-draw-requires c κs = search needs
-
-cast-len : tie.Need-cast-len
-cast-len c = search needs
-
-add-len : tie.Need-add-len
-add-len c = search needs
-
 returns-2 : tie.Need-returns-2
 returns-2 c = (rw (c .before .before .before .if1 .left) (last-piece _ _ (c .before .before .draw .result) (c .before .before .draw .ensures) (c .if2 .taken)), search needs)
 
@@ -24,4 +15,8 @@ returns-3 : tie.Need-returns-3
 returns-3 c = (rw (c .before .before .before .if1 .left) (long-piece _ _ (c .before .before .draw .result) (c .before .before .draw .ensures) (c .if2 .left)), search needs)
 
 pub next-piece-spec : {M : Type 1} → statement M
-next-piece-spec = tie.close (tie.spec returns draw-requires cast-len add-len returns-2 returns-3)
+next-piece-spec = tie.close (tie.spec returns
+    (λ c κs. search needs)
+    (λ c. search needs)
+    (λ c. search needs)
+    returns-2 returns-3)

@@ -2,21 +2,14 @@ use borrow.Author.Needs.{needs}
 use Rattle.error_numbers.proofs.answer_number.Statement.{statement}
 use Rattle.error_numbers.proofs.answer_number.Tie as tie
 
-enum-told : tie.Need-enum-told
-enum-told c = search needs
-
-enum-known-answer : tie.Need-enum-known-answer
-enum-known-answer c = search needs
-
-number-requires : tie.Need-number-requires
-number-requires c κs = search needs
-
-returns : tie.Need-returns
-returns c = search needs
-
 returns-2 : tie.Need-returns-2
 returns-2 c = rw (c .before .before .answer .given .1) (c .number .ensures)
 
 pub answer-number-spec : {M : Type 1} → statement M
 answer-number-spec =
-    tie.close (tie.spec enum-told enum-known-answer number-requires returns returns-2)
+    tie.close (tie.spec
+    (λ c. search needs)
+    (λ c. search needs)
+    (λ c κs. search needs)
+    (λ c. search needs)
+    returns-2)

@@ -2,135 +2,6 @@ use borrow.Author.Needs.{needs}
 use Rattle.error_numbers.proofs.numbers_of.Statement.{statement}
 use Rattle.error_numbers.proofs.numbers_of.Tie as tie
 
-enum-told : tie.Need-enum-told
-enum-told c = search needs
-
-alone-requires : tie.Need-alone-requires
-alone-requires c κs = search needs
-
-enum-told-2 : tie.Need-enum-told-2
-enum-told-2 c = search needs
-
-alone-requires-2 : tie.Need-alone-requires-2
-alone-requires-2 c κs = search needs
-
-enum-told-3 : tie.Need-enum-told-3
-enum-told-3 c = search needs
-
-alone-requires-3 : tie.Need-alone-requires-3
-alone-requires-3 c κs = search needs
-
-enum-told-4 : tie.Need-enum-told-4
-enum-told-4 c = search needs
-
-alone-requires-4 : tie.Need-alone-requires-4
-alone-requires-4 c κs = search needs
-
-enum-told-5 : tie.Need-enum-told-5
-enum-told-5 c = search needs
-
-alone-requires-5 : tie.Need-alone-requires-5
-alone-requires-5 c κs = search needs
-
-enum-told-6 : tie.Need-enum-told-6
-enum-told-6 c = search needs
-
-alone-requires-6 : tie.Need-alone-requires-6
-alone-requires-6 c κs = search needs
-
-enum-told-7 : tie.Need-enum-told-7
-enum-told-7 c = search needs
-
-alone-requires-7 : tie.Need-alone-requires-7
-alone-requires-7 c κs = search needs
-
-enum-told-8 : tie.Need-enum-told-8
-enum-told-8 c = search needs
-
-alone-requires-8 : tie.Need-alone-requires-8
-alone-requires-8 c κs = search needs
-
-enum-told-9 : tie.Need-enum-told-9
-enum-told-9 c = search needs
-
-alone-requires-9 : tie.Need-alone-requires-9
-alone-requires-9 c κs = search needs
-
-enum-told-10 : tie.Need-enum-told-10
-enum-told-10 c = search needs
-
-alone-requires-10 : tie.Need-alone-requires-10
-alone-requires-10 c κs = search needs
-
-enum-told-11 : tie.Need-enum-told-11
-enum-told-11 c = search needs
-
-alone-requires-11 : tie.Need-alone-requires-11
-alone-requires-11 c κs = search needs
-
-enum-told-12 : tie.Need-enum-told-12
-enum-told-12 c = search needs
-
-alone-requires-12 : tie.Need-alone-requires-12
-alone-requires-12 c κs = search needs
-
-enum-told-13 : tie.Need-enum-told-13
-enum-told-13 c = search needs
-
-alone-requires-13 : tie.Need-alone-requires-13
-alone-requires-13 c κs = search needs
-
-enum-known-error : tie.Need-enum-known-error
-enum-known-error c = search needs
-
-enum-told-14 : tie.Need-enum-told-14
-enum-told-14 c = search needs
-
-alone-requires-14 : tie.Need-alone-requires-14
-alone-requires-14 c κs = search needs
-
-enum-told-15 : tie.Need-enum-told-15
-enum-told-15 c = search needs
-
-alone-requires-15 : tie.Need-alone-requires-15
-alone-requires-15 c κs = search needs
-
-enum-told-16 : tie.Need-enum-told-16
-enum-told-16 c = search needs
-
-alone-requires-16 : tie.Need-alone-requires-16
-alone-requires-16 c κs = search needs
-
-enum-told-17 : tie.Need-enum-told-17
-enum-told-17 c = search needs
-
-alone-requires-17 : tie.Need-alone-requires-17
-alone-requires-17 c κs = search needs
-
-enum-told-18 : tie.Need-enum-told-18
-enum-told-18 c = search needs
-
-alone-requires-18 : tie.Need-alone-requires-18
-alone-requires-18 c κs = search needs
-
-enum-told-19 : tie.Need-enum-told-19
-enum-told-19 c = search needs
-
-alone-requires-19 : tie.Need-alone-requires-19
-alone-requires-19 c κs = search needs
-
-enum-told-20 : tie.Need-enum-told-20
-enum-told-20 c = search needs
-
-alone-requires-20 : tie.Need-alone-requires-20
-alone-requires-20 c κs = search needs
-
-enum-told-21 : tie.Need-enum-told-21
-enum-told-21 c = search needs
-
-alone-requires-21 : tie.Need-alone-requires-21
-alone-requires-21 c κs = search needs
-
 returns : tie.Need-returns
 returns c = rw (c .before .enum-told .given .1) (c .alone .ensures)
 
@@ -201,49 +72,49 @@ pub numbers-of-spec : {M : Type 1} → statement M
 numbers-of-spec =
     tie.close
     (tie.spec
-    enum-told
-    alone-requires
-    enum-told-2
-    alone-requires-2
-    enum-told-3
-    alone-requires-3
-    enum-told-4
-    alone-requires-4
-    enum-told-5
-    alone-requires-5
-    enum-told-6
-    alone-requires-6
-    enum-told-7
-    alone-requires-7
-    enum-told-8
-    alone-requires-8
-    enum-told-9
-    alone-requires-9
-    enum-told-10
-    alone-requires-10
-    enum-told-11
-    alone-requires-11
-    enum-told-12
-    alone-requires-12
-    enum-told-13
-    alone-requires-13
-    enum-known-error
-    enum-told-14
-    alone-requires-14
-    enum-told-15
-    alone-requires-15
-    enum-told-16
-    alone-requires-16
-    enum-told-17
-    alone-requires-17
-    enum-told-18
-    alone-requires-18
-    enum-told-19
-    alone-requires-19
-    enum-told-20
-    alone-requires-20
-    enum-told-21
-    alone-requires-21
+    (λ c. search needs)
+    (λ c κs. search needs)
+    (λ c. search needs)
+    (λ c κs. search needs)
+    (λ c. search needs)
+    (λ c κs. search needs)
+    (λ c. search needs)
+    (λ c κs. search needs)
+    (λ c. search needs)
+    (λ c κs. search needs)
+    (λ c. search needs)
+    (λ c κs. search needs)
+    (λ c. search needs)
+    (λ c κs. search needs)
+    (λ c. search needs)
+    (λ c κs. search needs)
+    (λ c. search needs)
+    (λ c κs. search needs)
+    (λ c. search needs)
+    (λ c κs. search needs)
+    (λ c. search needs)
+    (λ c κs. search needs)
+    (λ c. search needs)
+    (λ c κs. search needs)
+    (λ c. search needs)
+    (λ c κs. search needs)
+    (λ c. search needs)
+    (λ c. search needs)
+    (λ c κs. search needs)
+    (λ c. search needs)
+    (λ c κs. search needs)
+    (λ c. search needs)
+    (λ c κs. search needs)
+    (λ c. search needs)
+    (λ c κs. search needs)
+    (λ c. search needs)
+    (λ c κs. search needs)
+    (λ c. search needs)
+    (λ c κs. search needs)
+    (λ c. search needs)
+    (λ c κs. search needs)
+    (λ c. search needs)
+    (λ c κs. search needs)
     returns
     returns-2
     returns-3

@@ -7,18 +7,6 @@ use borrow.Author.Needs.{needs}
 use Rattle.fields.proofs.put_counted.Statement.{statement}
 use Rattle.fields.proofs.put_counted.Tie as tie
 
-cast-put-byte : tie.Need-cast-put-byte
-cast-put-byte c = search needs
-
-put-byte-requires : tie.Need-put-byte-requires
-put-byte-requires c κs = search needs
-
-copy-requires : tie.Need-copy-requires
-copy-requires c κs = search needs
-
-same-length : tie.Need-same-length
-same-length c = search needs
-
 returns : tie.Need-returns
 returns c =
     let start = c .before .before .before .before .before .before .before .before .before .before in
@@ -28,4 +16,9 @@ returns c =
 
 pub put-counted-spec : {M : Type 1} → statement M
 put-counted-spec =
-    tie.close (tie.spec cast-put-byte put-byte-requires copy-requires same-length returns)
+    tie.close (tie.spec
+    (λ c. search needs)
+    (λ c κs. search needs)
+    (λ c κs. search needs)
+    (λ c. search needs)
+    returns)

@@ -8,11 +8,10 @@ use Rattle.gitaymba.proofs.gitaymba_bound_text.Tie as tie
 long : (c : tie.After-bound-text-arg) → length (c .before .args .text .now) ≡ 261
 long c = c .bound-text-arg .given .0 .1
 
-bound-text-requires : tie.Need-bound-text-requires
-bound-text-requires c κs = search needs
-
 returns : tie.Need-returns
 returns c = (c .bound-text .ensures .0, c .bound-text .ensures .1 (omega (arith, long (c .before))))
 
 pub gitaymba-bound-text-spec : {M : Type 1} → statement M
-gitaymba-bound-text-spec = tie.close (tie.spec bound-text-requires returns)
+gitaymba-bound-text-spec = tie.close (tie.spec
+    (λ c κs. search needs)
+    returns)

@@ -10,35 +10,17 @@ returns c =
     let a = c .before .before .before .args in
     (search needs, rw (row-none (a .base) (a .mark) (a .values .now) (omega arith)) (nothing _ _))
 
-shared-slice-read-wide : tie.Need-shared-slice-read-wide
-shared-slice-read-wide c = search needs
-
-wide-requires : tie.Need-wide-requires
-wide-requires c κs = search needs
-
 put-digits-requires : tie.Need-put-digits-requires
 put-digits-requires c κs =
     let b = c .before .before .before .before .before .before in
     let f = five (b .args .base) (c .before .wide .result) (omega arith) (omega (arith, c .before .before .shared-slice-known2 .given 0)) in
     (search needs, (search needs, omega arith))
 
-sub-put-behind : tie.Need-sub-put-behind
-sub-put-behind c = search needs
-
-part-put-behind-start : tie.Need-part-put-behind-start
-part-put-behind-start c = search needs
-
-part-put-behind-end : tie.Need-part-put-behind-end
-part-put-behind-end c = search needs
-
 put-behind-requires : tie.Need-put-behind-requires
 put-behind-requires c κs =
     let b = c .before .before .before .before .before .before .before .before .before .before .before in
     let f = five (b .args .base) (c .before .before .before .before .before .before .wide .result) (omega arith) (omega (arith, c .before .before .before .before .before .before .before .shared-slice-known2 .given 0)) in
     (search needs, (search needs, omega (arith, part-length (b .args .values .now) 1)))
-
-same-length : tie.Need-same-length
-same-length c = search needs
 
 returns-2 : tie.Need-returns-2
 returns-2 c =
@@ -53,12 +35,12 @@ put-row-spec =
     tie.close
     (tie.spec
     returns
-    shared-slice-read-wide
-    wide-requires
+    (λ c. search needs)
+    (λ c κs. search needs)
     put-digits-requires
-    sub-put-behind
-    part-put-behind-start
-    part-put-behind-end
+    (λ c. search needs)
+    (λ c. search needs)
+    (λ c. search needs)
     put-behind-requires
-    same-length
+    (λ c. search needs)
     returns-2)

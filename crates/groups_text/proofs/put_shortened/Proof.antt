@@ -32,18 +32,6 @@ add-out c = omega (arith, front (c .before .before .before .before .before .befo
 slice-write-out-2 : tie.Need-slice-write-out-2
 slice-write-out-2 c = simp length-set (omega (arith, front (c .before .before .before .before .before .before .before), c .before .before .put-row .ensures .1 .same))
 
-mul-put-row : tie.Need-mul-put-row
-mul-put-row c = search needs
-
-sub-put-row : tie.Need-sub-put-row
-sub-put-row c = search needs
-
-part-put-row-start : tie.Need-part-put-row-start
-part-put-row-start c = search needs
-
-part-put-row-end : tie.Need-part-put-row-end
-part-put-row-end c = search needs
-
 add-put-row : tie.Need-add-put-row
 add-put-row c = omega (arith, front (c .before .before .before .before .before .before .before .before .before), c .before .before .before .before .put-row .ensures .1 .same)
 
@@ -72,10 +60,10 @@ put-shortened-spec =
     slice-write-out
     add-out
     slice-write-out-2
-    mul-put-row
-    sub-put-row
-    part-put-row-start
-    part-put-row-end
+    (λ c. search needs)
+    (λ c. search needs)
+    (λ c. search needs)
+    (λ c. search needs)
     add-put-row
     put-row-requires-2
     same-length

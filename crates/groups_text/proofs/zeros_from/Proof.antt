@@ -4,9 +4,6 @@ use native.Mathlib.Numerals.{add-one}
 use Rattle.groups_text.proofs.zeros_from.Statement.{statement}
 use Rattle.groups_text.proofs.zeros_from.Tie as tie
 
-add-result : tie.Need-add-result
-add-result c = search needs
-
 returns : tie.Need-returns
 returns c = rw (eq-eqb _ _ (c .if1 .taken)) (add-one _)
 
@@ -14,4 +11,6 @@ returns-2 : tie.Need-returns-2
 returns-2 c = rw (ne-eqb _ _ (c .if1 .left))
 
 pub zeros-from-spec : {M : Type 1} → statement M
-zeros-from-spec = tie.close (tie.spec add-result returns returns-2)
+zeros-from-spec = tie.close (tie.spec
+    (λ c. search needs)
+    returns returns-2)

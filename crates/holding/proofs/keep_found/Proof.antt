@@ -5,18 +5,6 @@ use borrow.Author.Needs.{needs}
 use Rattle.holding.proofs.keep_found.Statement.{statement}
 use Rattle.holding.proofs.keep_found.Tie as tie
 
-add-from : tie.Need-add-from
-add-from c = search needs
-
-add-keep-part : tie.Need-add-keep-part
-add-keep-part c = search needs
-
-keep-part-requires : tie.Need-keep-part-requires
-keep-part-requires c κs = search needs
-
-same-length : tie.Need-same-length
-same-length c = search needs
-
 returns : tie.Need-returns
 returns c =
     let a = c .before .before .before .before .before .before .before .before .before .args in
@@ -24,4 +12,9 @@ returns c =
 
 pub keep-found-spec : {M : Type 1} → statement M
 keep-found-spec =
-    tie.close (tie.spec add-from add-keep-part keep-part-requires same-length returns)
+    tie.close (tie.spec
+    (λ c. search needs)
+    (λ c. search needs)
+    (λ c κs. search needs)
+    (λ c. search needs)
+    returns)

@@ -8,12 +8,6 @@ use borrow.Author.Needs.{needs}
 use Rattle.holding.proofs.keep_part.Statement.{statement}
 use Rattle.holding.proofs.keep_part.Tie as tie
 
-least-requires : tie.Need-least-requires
-least-requires c κs = search needs
-
-sub-end : tie.Need-sub-end
-sub-end c = search needs
-
 slice-aggregate-keep-rest : tie.Need-slice-aggregate-keep-rest
 slice-aggregate-keep-rest c = let start = c .before .before .before .before .before in
     let p = start .pre in
@@ -28,9 +22,6 @@ keep-rest-requires c κs = let start = c .before .before .before .before .before
     let l : length (take (a .to - c .before .before .least .result) (a .piece .now)) ≡ a .to - c .before .before .least .result = length-take-le _ _ (omega arith) in
     (omega arith, omega arith, omega arith)
 
-same-length : tie.Need-same-length
-same-length c = search needs
-
 returns : tie.Need-returns
 returns c = let start = c .before .before .before .before .before .before .before .before in
     let a = start .args in
@@ -41,9 +32,9 @@ pub keep-part-spec : {M : Type 1} → statement M
 keep-part-spec =
     tie.close
     (tie.spec
-    least-requires
-    sub-end
+    (λ c κs. search needs)
+    (λ c. search needs)
     slice-aggregate-keep-rest
     keep-rest-requires
-    same-length
+    (λ c. search needs)
     returns)

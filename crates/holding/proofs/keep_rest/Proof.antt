@@ -22,35 +22,11 @@ shifted c =
     let start = c .before .before .before .before in
     ⊎-elim (λ w. w .5 ∙ w .2 .ensures) (λ w. w .1 ∙ unshifted (start .args .hold .now) (start .args .n) (start .args .place) (inside start) (w .0 .left)) (c .if2 .came)
 
-sub-copy : tie.Need-sub-copy
-sub-copy c = search needs
-
-part-copy-start : tie.Need-part-copy-start
-part-copy-start c = search needs
-
-part-copy-end : tie.Need-part-copy-end
-part-copy-end c = search needs
-
-copy-requires : tie.Need-copy-requires
-copy-requires c κs = search needs
-
-same-length : tie.Need-same-length
-same-length c = search needs
-
 returns : tie.Need-returns
 returns c =
     let start = c .before .before .before .before .before .before .before .before in
     let a = start .args in
     kept-piece (a .hold .now) (a .n) (a .place) (inside start) (a .piece .now) (c .before .before .before .before .before .if1 .taken) (c .before .before .copy .ensures)
-
-sub-shift : tie.Need-sub-shift
-sub-shift c = search needs
-
-shift-requires : tie.Need-shift-requires
-shift-requires c κs = search needs
-
-sub-copy-2 : tie.Need-sub-copy-2
-sub-copy-2 c = search needs
 
 copy-requires-2 : tie.Need-copy-requires-2
 copy-requires-2 c κs =
@@ -74,15 +50,15 @@ pub keep-rest-spec : {M : Type 1} → statement M
 keep-rest-spec =
     tie.close
     (tie.spec
-    sub-copy
-    part-copy-start
-    part-copy-end
-    copy-requires
-    same-length
+    (λ c. search needs)
+    (λ c. search needs)
+    (λ c. search needs)
+    (λ c κs. search needs)
+    (λ c. search needs)
     returns
-    sub-shift
-    shift-requires
-    sub-copy-2
+    (λ c. search needs)
+    (λ c κs. search needs)
+    (λ c. search needs)
     copy-requires-2
     same-length-2
     returns-2)

@@ -16,43 +16,10 @@ sixteen c = search needs
 told : (c : tie.After-read-ipv4) → Read4 (ipv4Of (c .before .before .before .args .text .now)) (c .read-ipv4 .result .bytes) (c .read-ipv4 .result .kind)
 told c = rw (c .read-ipv4 .ensures) (read4 (ipv4Of (c .before .before .before .args .text .now)))
 
-no-groups-requires : tie.Need-no-groups-requires
-no-groups-requires c κs = search needs
-
 returns : tie.Need-returns
 returns c = λ s.
     let z : 7 - c .before .before .before .args .k ≡ 0 = omega (arith, c .before .if1 .taken) in
     rw z (c .no-groups .ensures s)
-
-read-ipv4-requires : tie.Need-read-ipv4-requires
-read-ipv4-requires c κs = search needs
-
-enum-told : tie.Need-enum-told
-enum-told c = search needs
-
-add-copied : tie.Need-add-copied
-add-copied c = search needs
-
-copied-requires : tie.Need-copied-requires
-copied-requires c κs = search needs
-
-add-t10 : tie.Need-add-t10
-add-t10 c = search needs
-
-add-t12 : tie.Need-add-t12
-add-t12 c = search needs
-
-enum-told-2 : tie.Need-enum-told-2
-enum-told-2 c = search needs
-
-no-groups-requires-2 : tie.Need-no-groups-requires-2
-no-groups-requires-2 c κs = search needs
-
-enum-told-3 : tie.Need-enum-told-3
-enum-told-3 c = search needs
-
-no-groups-requires-3 : tie.Need-no-groups-requires-3
-no-groups-requires-3 c κs = search needs
 
 returns-2 : tie.Need-returns-2
 returns-2 c = λ s.
@@ -72,18 +39,18 @@ pub read-ipv4-tail-spec : {M : Type 1} → statement M
 read-ipv4-tail-spec =
     tie.close
     (tie.spec
-    no-groups-requires
+    (λ c κs. search needs)
     returns
-    read-ipv4-requires
-    enum-told
-    add-copied
-    copied-requires
-    add-t10
-    add-t12
-    enum-told-2
-    no-groups-requires-2
-    enum-told-3
-    no-groups-requires-3
+    (λ c κs. search needs)
+    (λ c. search needs)
+    (λ c. search needs)
+    (λ c κs. search needs)
+    (λ c. search needs)
+    (λ c. search needs)
+    (λ c. search needs)
+    (λ c κs. search needs)
+    (λ c. search needs)
+    (λ c κs. search needs)
     returns-2
     returns-3
     returns-4)

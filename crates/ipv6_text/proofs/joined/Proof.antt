@@ -6,15 +6,6 @@ use borrow.Author.Needs.{needs}
 use Rattle.ipv6_text.proofs.joined.Statement.{statement}
 use Rattle.ipv6_text.proofs.joined.Tie as tie
 
-copied-requires : tie.Need-copied-requires
-copied-requires c κs = search needs
-
-sub-copied : tie.Need-sub-copied
-sub-copied c = search needs
-
-copied-requires-2 : tie.Need-copied-requires-2
-copied-requires-2 c κs = search needs
-
 sixteen : (c : tie.Start) → (length (c .args .left) ≡ 16) × (length (c .args .right) ≡ 16)
 sixteen c = (search needs, search needs)
 
@@ -25,4 +16,8 @@ returns c =
     c .copied2 .ensures ∙ rw (c .before .copied .ensures) (joins (a .left) (a .right) (a .n) (a .m) x y (c .before .before .pre))
 
 pub joined-spec : {M : Type 1} → statement M
-joined-spec = tie.close (tie.spec copied-requires sub-copied copied-requires-2 returns)
+joined-spec = tie.close (tie.spec
+    (λ c κs. search needs)
+    (λ c. search needs)
+    (λ c κs. search needs)
+    returns)

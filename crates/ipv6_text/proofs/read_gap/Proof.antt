@@ -18,37 +18,10 @@ turn c =
     let a = c .before .before .args in
     join-turn (a .left) (a .n) (sixteen (c .before .before)) (c .before .before .pre) (c .read-right .ensures)
 
-read-right-requires : tie.Need-read-right-requires
-read-right-requires c κs = search needs
-
-enum-told : tie.Need-enum-told
-enum-told c = search needs
-
-no-address-requires : tie.Need-no-address-requires
-no-address-requires c κs = search needs
-
-enum-told-2 : tie.Need-enum-told-2
-enum-told-2 c = search needs
-
-no-address-requires-2 : tie.Need-no-address-requires-2
-no-address-requires-2 c κs = search needs
-
-enum-told-3 : tie.Need-enum-told-3
-enum-told-3 c = search needs
-
-add-if1 : tie.Need-add-if1
-add-if1 c = search needs
-
-joined-requires : tie.Need-joined-requires
-joined-requires c κs = search needs
-
 returns : tie.Need-returns
 returns c =
     let e = rw (c .before .before .before .enum-told3 .given .1, le-leb _ _ (c .before .if1 .taken)) at (turn (c .before .before .before .before .before .before)) in
     rw (e, c .joined .ensures)
-
-no-address-requires-3 : tie.Need-no-address-requires-3
-no-address-requires-3 c κs = search needs
 
 returns-2 : tie.Need-returns-2
 returns-2 c = rw (rw (c .before .enum-told .given .1) at (turn (c .before .before .before .before))) (c .no-address .ensures)
@@ -65,16 +38,16 @@ pub read-gap-spec : {M : Type 1} → statement M
 read-gap-spec =
     tie.close
     (tie.spec
-    read-right-requires
-    enum-told
-    no-address-requires
-    enum-told-2
-    no-address-requires-2
-    enum-told-3
-    add-if1
-    joined-requires
+    (λ c κs. search needs)
+    (λ c. search needs)
+    (λ c κs. search needs)
+    (λ c. search needs)
+    (λ c κs. search needs)
+    (λ c. search needs)
+    (λ c. search needs)
+    (λ c κs. search needs)
     returns
-    no-address-requires-3
+    (λ c κs. search needs)
     returns-2
     returns-3
     returns-4)

@@ -20,50 +20,14 @@ turn : (c : tie.After-read-groups) →
     WholeTurn s (c .read-groups .result) (ipv6Of s) (c .read-groups .result .stop)
 turn c = whole-turn (c .read-groups .ensures) (sym (c .before .before .starts-gap .ensures) ∙ c .before .if1 .left)
 
-starts-gap-requires : tie.Need-starts-gap-requires
-starts-gap-requires c κs = search needs
-
 sub-read-gap : tie.Need-sub-read-gap
 sub-read-gap c = let h = long c in omega arith
 
 part-read-gap-start : tie.Need-part-read-gap-start
 part-read-gap-start c = let h = long c in omega arith
 
-part-read-gap-end : tie.Need-part-read-gap-end
-part-read-gap-end c = search needs
-
-read-gap-requires : tie.Need-read-gap-requires
-read-gap-requires c κs = search needs
-
 returns : tie.Need-returns
 returns c = rw (starting _ (sym (c .before .before .before .starts-gap .ensures) ∙ c .before .before .if1 .taken), ← from-drop _ 2) (c .read-gap .ensures)
-
-read-groups-requires : tie.Need-read-groups-requires
-read-groups-requires c κs = search needs
-
-enum-told : tie.Need-enum-told
-enum-told c = search needs
-
-no-address-requires : tie.Need-no-address-requires
-no-address-requires c κs = search needs
-
-enum-told-2 : tie.Need-enum-told-2
-enum-told-2 c = search needs
-
-sub-read-gap-2 : tie.Need-sub-read-gap-2
-sub-read-gap-2 c = search needs
-
-part-read-gap-start-2 : tie.Need-part-read-gap-start-2
-part-read-gap-start-2 c = search needs
-
-part-read-gap-end-2 : tie.Need-part-read-gap-end-2
-part-read-gap-end-2 c = search needs
-
-read-gap-requires-2 : tie.Need-read-gap-requires-2
-read-gap-requires-2 c κs = search needs
-
-enum-told-3 : tie.Need-enum-told-3
-enum-told-3 c = search needs
 
 returns-2 : tie.Need-returns-2
 returns-2 c =
@@ -72,9 +36,6 @@ returns-2 c =
     let x = r .ensures .sixteen in
     let e = rw (c .before .enum-told3 .given .1, eq-eqb _ _ l, take-all (r .result .len) (r .result .bytes) (omega arith)) at (turn (c .before .before .before .before)) in
     rw e
-
-no-address-requires-2 : tie.Need-no-address-requires-2
-no-address-requires-2 c κs = search needs
 
 returns-3 : tie.Need-returns-3
 returns-3 c = rw (rw (c .before .enum-told .given .1) at (turn (c .before .before .before .before))) (c .no-address .ensures)
@@ -93,23 +54,23 @@ pub read-ipv6-spec : {M : Type 1} → statement M
 read-ipv6-spec =
     tie.close
     (tie.spec
-    starts-gap-requires
+    (λ c κs. search needs)
     sub-read-gap
     part-read-gap-start
-    part-read-gap-end
-    read-gap-requires
+    (λ c. search needs)
+    (λ c κs. search needs)
     returns
-    read-groups-requires
-    enum-told
-    no-address-requires
-    enum-told-2
-    sub-read-gap-2
-    part-read-gap-start-2
-    part-read-gap-end-2
-    read-gap-requires-2
-    enum-told-3
+    (λ c κs. search needs)
+    (λ c. search needs)
+    (λ c κs. search needs)
+    (λ c. search needs)
+    (λ c. search needs)
+    (λ c. search needs)
+    (λ c. search needs)
+    (λ c κs. search needs)
+    (λ c. search needs)
     returns-2
-    no-address-requires-2
+    (λ c κs. search needs)
     returns-3
     returns-4
     returns-5)

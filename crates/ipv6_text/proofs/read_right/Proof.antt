@@ -10,12 +10,11 @@ returns : tie.Need-returns
 unfolding rightOf
 returns c = record { shown = rw (eq-eqb _ _ (c .if1 .taken)); few = omega arith; sixteen = refl; inside = omega arith }
 
-read-groups-requires : tie.Need-read-groups-requires
-read-groups-requires c κs = search needs
-
 returns-2 : tie.Need-returns-2
 unfolding rightOf
 returns-2 c = rw (ne-eqb _ _ (c .before .if1 .left)) (c .read-groups .ensures)
 
 pub read-right-spec : {M : Type 1} → statement M
-read-right-spec = tie.close (tie.spec returns read-groups-requires returns-2)
+read-right-spec = tie.close (tie.spec returns
+    (λ c κs. search needs)
+    returns-2)

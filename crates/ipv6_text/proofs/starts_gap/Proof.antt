@@ -9,12 +9,6 @@ use Rattle.ipv6_text.proofs.starts_gap.Tie as tie
 returns : tie.Need-returns
 returns c = sym (short-start _ (c .if1 .taken))
 
-shared-slice-read-if2 : tie.Need-shared-slice-read-if2
-shared-slice-read-if2 c = search needs
-
-shared-slice-read-result : tie.Need-shared-slice-read-result
-shared-slice-read-result c = search needs
-
 returns-2 : tie.Need-returns-2
 unfolding startsGap
 returns-2 c = simp (eq-eqb _ _ (c .before .if2 .taken))
@@ -25,4 +19,7 @@ returns-3 c = simp (ne-eqb _ _ (c .if2 .left))
 
 pub starts-gap-spec : {M : Type 1} → statement M
 starts-gap-spec =
-    tie.close (tie.spec returns shared-slice-read-if2 shared-slice-read-result returns-2 returns-3)
+    tie.close (tie.spec returns
+    (λ c. search needs)
+    (λ c. search needs)
+    returns-2 returns-3)

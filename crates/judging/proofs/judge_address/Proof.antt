@@ -3,17 +3,15 @@ use borrow.Author.Needs.{needs}
 use Rattle.judging.proofs.judge_address.Statement.{statement}
 use Rattle.judging.proofs.judge_address.Tie as tie
 
-asks-requires : tie.Need-asks-requires
-asks-requires c κs = search needs
-
 returns : tie.Need-returns
 returns c = rw (eq-eqb _ 1 (c .before .if1 .taken)) (c .asks .ensures)
-
-fails-requires : tie.Need-fails-requires
-fails-requires c κs = search needs
 
 returns-2 : tie.Need-returns-2
 returns-2 c = rw (ne-eqb _ 1 (c .before .if1 .left)) (c .fails .ensures)
 
 pub judge-address-spec : {M : Type 1} → statement M
-judge-address-spec = tie.close (tie.spec asks-requires returns fails-requires returns-2)
+judge-address-spec = tie.close (tie.spec
+    (λ c κs. search needs)
+    returns
+    (λ c κs. search needs)
+    returns-2)

@@ -4,21 +4,17 @@ use borrow.Author.Needs.{needs}
 use Rattle.judging.proofs.judge_first.Statement.{statement}
 use Rattle.judging.proofs.judge_first.Tie as tie
 
-byte-requires : tie.Need-byte-requires
-byte-requires c κs = search needs
-
-goes-to-requires : tie.Need-goes-to-requires
-goes-to-requires c κs = search needs
-
 returns : tie.Need-returns
 returns c = rw (eq-eqb _ 0x05 (sym (c .before .before .byte .ensures) ∙ c .before .if1 .taken)) (c .goes-to .ensures)
-
-goes-to-requires-2 : tie.Need-goes-to-requires-2
-goes-to-requires-2 c κs = search needs
 
 returns-2 : tie.Need-returns-2
 returns-2 c = rw (ne-eqb _ 0x05 (λ q. c .before .if1 .left (c .before .before .byte .ensures ∙ q))) (c .goes-to2 .ensures)
 
 pub judge-first-spec : {M : Type 1} → statement M
 judge-first-spec =
-    tie.close (tie.spec byte-requires goes-to-requires returns goes-to-requires-2 returns-2)
+    tie.close (tie.spec
+    (λ c κs. search needs)
+    (λ c κs. search needs)
+    returns
+    (λ c κs. search needs)
+    returns-2)

@@ -5,20 +5,11 @@ use borrow.Author.Needs.{needs}
 use Rattle.judging.proofs.judge_methods.Statement.{statement}
 use Rattle.judging.proofs.judge_methods.Tie as tie
 
-offers-requires : tie.Need-offers-requires
-offers-requires c κs = search needs
-
-behind-greeting-requires : tie.Need-behind-greeting-requires
-behind-greeting-requires c κs = search needs
-
 returns : tie.Need-returns
 returns c =
     let a = c .before .before .before .before .before .before .args in
     let j = c .before .before .before .if1 .came in
     methods-taken (a .authenticates) (a .held .now ++ a .piece .now) (⊎-elim (λ w. chosen-true (a .authenticates) (w .0 .taken) (w .1)) (λ w. chosen-false (a .authenticates) (w .0 .left) (w .1)) j) (c .before .before .offers .ensures) (c .before .if2 .taken) (c .behind-greeting .ensures)
-
-fails-requires : tie.Need-fails-requires
-fails-requires c κs = search needs
 
 returns-2 : tie.Need-returns-2
 returns-2 c =
@@ -28,4 +19,9 @@ returns-2 c =
 
 pub judge-methods-spec : {M : Type 1} → statement M
 judge-methods-spec =
-    tie.close (tie.spec offers-requires behind-greeting-requires returns fails-requires returns-2)
+    tie.close (tie.spec
+    (λ c κs. search needs)
+    (λ c κs. search needs)
+    returns
+    (λ c κs. search needs)
+    returns-2)

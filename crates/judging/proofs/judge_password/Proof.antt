@@ -5,16 +5,10 @@ use borrow.Author.Needs.{needs}
 use Rattle.judging.proofs.judge_password.Statement.{statement}
 use Rattle.judging.proofs.judge_password.Tie as tie
 
-same-requires : tie.Need-same-requires
-same-requires c κs = search needs
-
 returns : tie.Need-returns
 returns c =
     let a = c .before .before .before .before .before .before .args in
     password-taken (a .right) (a .password .now) (a .held .now ++ a .piece .now) (c .before .before .if1 .taken) (c .before .same .ensures) (c .if2 .taken)
-
-fails-requires : tie.Need-fails-requires
-fails-requires c κs = search needs
 
 returns-2 : tie.Need-returns-2
 returns-2 c =
@@ -23,4 +17,8 @@ returns-2 c =
     ⊎-elim (λ w. password-wrong (a .right) (a .password .now) m (w .0 .taken) (w .1 .ensures) (c .fails .ensures) (w .2 .left)) (λ w. user-wrong (a .right) (a .password .now) m (c .fails .ensures) (w .left)) (c .before .if1 .came)
 
 pub judge-password-spec : {M : Type 1} → statement M
-judge-password-spec = tie.close (tie.spec same-requires returns fails-requires returns-2)
+judge-password-spec = tie.close (tie.spec
+    (λ c κs. search needs)
+    returns
+    (λ c κs. search needs)
+    returns-2)

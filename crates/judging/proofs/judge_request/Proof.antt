@@ -3,24 +3,21 @@ use borrow.Author.Needs.{needs}
 use Rattle.judging.proofs.judge_request.Statement.{statement}
 use Rattle.judging.proofs.judge_request.Tie as tie
 
-fails-requires : tie.Need-fails-requires
-fails-requires c κs = search needs
-
 returns : tie.Need-returns
 returns c = rw (c .before .if1 .taken) (c .fails .ensures)
 
-asks-requires : tie.Need-asks-requires
-asks-requires c κs = search needs
-
 returns-2 : tie.Need-returns-2
 returns-2 c = rw (c .before .before .if1 .left, eq-eqb _ 1 (c .before .if2 .taken)) (c .asks .ensures)
-
-fails-requires-2 : tie.Need-fails-requires-2
-fails-requires-2 c κs = search needs
 
 returns-3 : tie.Need-returns-3
 returns-3 c = rw (c .before .before .if1 .left, ne-eqb _ 1 (c .before .if2 .left)) (c .fails2 .ensures)
 
 pub judge-request-spec : {M : Type 1} → statement M
 judge-request-spec =
-    tie.close (tie.spec fails-requires returns asks-requires returns-2 fails-requires-2 returns-3)
+    tie.close (tie.spec
+    (λ c κs. search needs)
+    returns
+    (λ c κs. search needs)
+    returns-2
+    (λ c κs. search needs)
+    returns-3)

@@ -3,17 +3,8 @@ use borrow.Author.Needs.{needs}
 use Rattle.judging.proofs.judge_user_id.Statement.{statement}
 use Rattle.judging.proofs.judge_user_id.Tie as tie
 
-announces-name-requires : tie.Need-announces-name-requires
-announces-name-requires c κs = search needs
-
-goes-to-requires : tie.Need-goes-to-requires
-goes-to-requires c κs = search needs
-
 returns : tie.Need-returns
 returns c = rw (sym (c .before .before .announces-name .ensures) ∙ c .before .if1 .taken) (c .goes-to .ensures)
-
-judge-request-requires : tie.Need-judge-request-requires
-judge-request-requires c κs = search needs
 
 returns-2 : tie.Need-returns-2
 returns-2 c = rw (sym (c .before .before .announces-name .ensures) ∙ c .before .if1 .left) (c .judge-request .ensures)
@@ -21,4 +12,9 @@ returns-2 c = rw (sym (c .before .before .announces-name .ensures) ∙ c .before
 pub judge-user-id-spec : {M : Type 1} → statement M
 judge-user-id-spec =
     tie.close
-    (tie.spec announces-name-requires goes-to-requires returns judge-request-requires returns-2)
+    (tie.spec
+    (λ c κs. search needs)
+    (λ c κs. search needs)
+    returns
+    (λ c κs. search needs)
+    returns-2)

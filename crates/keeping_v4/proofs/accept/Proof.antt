@@ -13,14 +13,8 @@ use Rattle.keeping_v4.proofs.accept.Tie as tie
 room : {bs : List ℕ} → bs ≡ replicate 1024 0 → 1024 ≤ length bs
 room z = omega (arith, zeros-size z)
 
-port-number-requires : tie.Need-port-number-requires
-port-number-requires c κs = search needs
-
 put-request-requires : tie.Need-put-request-requires
 put-request-requires c κs = let p = c .before .before .before .before .pre in (room (p .0), p .1)
-
-same-length : tie.Need-same-length
-same-length c = search needs
 
 returns : tie.Need-returns
 returns c =
@@ -29,4 +23,8 @@ returns c =
     accepts4 (target4 (a .asked) (a .text .now)) (a .port) (c .before .before .before .port-number .ensures) (start .pre .0) (c .before .before .put-request .ensures)
 
 pub accept-spec : {M : Type 1} → statement M
-accept-spec = tie.close (tie.spec port-number-requires put-request-requires same-length returns)
+accept-spec = tie.close (tie.spec
+    (λ c κs. search needs)
+    put-request-requires
+    (λ c. search needs)
+    returns)

@@ -17,9 +17,6 @@ name-room h k = omega arith
 sixteen : (c : tie.Start) → length (c .args .asked .bytes) ≡ 16
 sixteen c = search needs
 
-enum-told : tie.Need-enum-told
-enum-told c = search needs
-
 array-share-prefix-ip : tie.Need-array-share-prefix-ip
 array-share-prefix-ip c = four-long (sixteen (c .before .before .before .before .before .before))
 
@@ -33,19 +30,10 @@ put-address-requires c κs =
     let start = c .before .before .before .before .before .before .before in
     (sym (four-size (start .args .asked .bytes) (sixteen start)), address-room (start .pre .0))
 
-enum-told-2 : tie.Need-enum-told-2
-enum-told-2 c = search needs
-
-enum-told-3 : tie.Need-enum-told-3
-enum-told-3 c = search needs
-
 put-name-requires : tie.Need-put-name-requires
 put-name-requires c κs =
     let start = c .before .before .before .before .before .before in
     name-room (start .pre .1 .name (c .before .enum-told3 .given .1)) (start .pre .0)
-
-same-length : tie.Need-same-length
-same-length c = search needs
 
 returns : tie.Need-returns
 returns c =
@@ -54,9 +42,6 @@ returns c =
 
 returns-2 : tie.Need-returns-2
 returns-2 c = absurd (c .before .before .before .before .before .pre .1 .not-ipv6 (c .enum-told2 .given .1))
-
-same-length-2 : tie.Need-same-length-2
-same-length-2 c = search needs
 
 returns-3 : tie.Need-returns-3
 returns-3 c =
@@ -67,15 +52,15 @@ pub put-request-spec : {M : Type 1} → statement M
 put-request-spec =
     tie.close
     (tie.spec
-    enum-told
+    (λ c. search needs)
     array-share-prefix-ip
     slice-aggregate-put-address
     put-address-requires
-    enum-told-2
-    enum-told-3
+    (λ c. search needs)
+    (λ c. search needs)
     put-name-requires
-    same-length
+    (λ c. search needs)
     returns
     returns-2
-    same-length-2
+    (λ c. search needs)
     returns-3)

@@ -4,18 +4,6 @@ use borrow.Author.Needs.{needs}
 use Rattle.keeping_v5.proofs.accept.Statement.{statement}
 use Rattle.keeping_v5.proofs.accept.Tie as tie
 
-port-number-requires : tie.Need-port-number-requires
-port-number-requires c κs = search needs
-
-keep-requires : tie.Need-keep-requires
-keep-requires c κs = search needs
-
-method-of-requires : tie.Need-method-of-requires
-method-of-requires c κs = search needs
-
-same-length : tie.Need-same-length
-same-length c = search needs
-
 returns : tie.Need-returns
 returns c =
     let a = c .before .before .before .before .before .before .before .before .before .before .args in
@@ -24,4 +12,9 @@ returns c =
 
 pub accept-spec : {M : Type 1} → statement M
 accept-spec =
-    tie.close (tie.spec port-number-requires keep-requires method-of-requires same-length returns)
+    tie.close (tie.spec
+    (λ c κs. search needs)
+    (λ c κs. search needs)
+    (λ c κs. search needs)
+    (λ c. search needs)
+    returns)

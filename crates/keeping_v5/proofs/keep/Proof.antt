@@ -13,9 +13,6 @@ use Rattle.keeping_v5.proofs.keep.Tie as tie
 room-first : {bs : List ℕ} → bs ≡ replicate 1024 0 → 0 + 3 ≤ length bs
 room-first z = omega (arith, zeros-size z)
 
-method-of-requires : tie.Need-method-of-requires
-method-of-requires c κs = search needs
-
 put-negotiation-req-requires : tie.Need-put-negotiation-req-requires
 put-negotiation-req-requires c κs = room-first (c .before .before .before .before .before .before .pre .0)
 
@@ -31,15 +28,6 @@ put-proxy-requires c κs =
     let p = start .pre in
     (p .1 .name, room-third (c .before .before .before .before .before .before .before .before .method-of .result) (p .0) (c .before .before .before .before .before .before .before .put-negotiation-req .ensures) (a .config .«proxy_auth») (a .user .now) (a .password .now) (c .before .before .before .put-authentication .ensures) (p .1 .credentials))
 
-sub-t18 : tie.Need-sub-t18
-sub-t18 c = search needs
-
-sub-t19 : tie.Need-sub-t19
-sub-t19 c = search needs
-
-same-length : tie.Need-same-length
-same-length c = search needs
-
 returns : tie.Need-returns
 returns c =
     let start = c .before .before .before .before .before .before .before .before .before .before .before .before .before .before .before .before .before in
@@ -52,11 +40,11 @@ pub keep-spec : {M : Type 1} → statement M
 keep-spec =
     tie.close
     (tie.spec
-    method-of-requires
+    (λ c κs. search needs)
     put-negotiation-req-requires
     put-authentication-requires
     put-proxy-requires
-    sub-t18
-    sub-t19
-    same-length
+    (λ c. search needs)
+    (λ c. search needs)
+    (λ c. search needs)
     returns)

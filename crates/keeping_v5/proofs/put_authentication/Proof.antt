@@ -16,9 +16,6 @@ put-authentication-req-requires c κs =
     let a = start .args in
     small (a .at) (a .user .now) (a .password .now) (length (a .bytes .now)) (start .pre .0 (c .before .if1 .taken)) (start .pre .1)
 
-same-length : tie.Need-same-length
-same-length c = search needs
-
 returns : tie.Need-returns
 returns c = rw (c .before .before .before .before .if1 .taken) (c .before .before .put-authentication-req .ensures)
 
@@ -29,4 +26,6 @@ returns-2 c =
 
 pub put-authentication-spec : {M : Type 1} → statement M
 put-authentication-spec =
-    tie.close (tie.spec put-authentication-req-requires same-length returns returns-2)
+    tie.close (tie.spec put-authentication-req-requires
+    (λ c. search needs)
+    returns returns-2)

@@ -18,9 +18,6 @@ six-small l = omega arith
 sixteen : (c : tie.Start) → length (c .args .asked .bytes) ≡ 16
 sixteen c = search needs
 
-enum-told : tie.Need-enum-told
-enum-told c = search needs
-
 array-share-prefix-ip : tie.Need-array-share-prefix-ip
 array-share-prefix-ip c = four-long (sixteen (c .before .before .before .before .before .before))
 
@@ -33,20 +30,11 @@ put-proxy-req-requires c κs =
     let a = start .args in
     proxy-room (a .asked .kind) (length (take 4 (a .asked .bytes))) (a .at) (length (a .bytes .now)) (four-small (a .asked .bytes)) (start .pre .1)
 
-enum-told-2 : tie.Need-enum-told-2
-enum-told-2 c = search needs
-
-slice-aggregate-put-proxy-req-2 : tie.Need-slice-aggregate-put-proxy-req-2
-slice-aggregate-put-proxy-req-2 c = search needs
-
 put-proxy-req-requires-2 : tie.Need-put-proxy-req-requires-2
 put-proxy-req-requires-2 c κs =
     let start = c .before .before .before .before .before .before .before in
     let a = start .args in
     proxy-room (a .asked .kind) (length (a .asked .bytes)) (a .at) (length (a .bytes .now)) (six-small (sixteen start)) (start .pre .1)
-
-enum-told-3 : tie.Need-enum-told-3
-enum-told-3 c = search needs
 
 put-proxy-req-requires-3 : tie.Need-put-proxy-req-requires-3
 put-proxy-req-requires-3 c κs =
@@ -54,24 +42,15 @@ put-proxy-req-requires-3 c κs =
     let a = start .args in
     proxy-room (a .asked .kind) (length (a .text .now)) (a .at) (length (a .bytes .now)) (start .pre .0 (c .before .enum-told3 .given .1)) (start .pre .1)
 
-same-length : tie.Need-same-length
-same-length c = search needs
-
 returns : tie.Need-returns
 returns c =
     let a = c .before .before .before .before .before .before .before .before .before .before .args in
     asks (a .port) (four (a .asked .bytes) (a .text .now) (c .before .before .before .before .before .enum-told .given .1)) (c .before .before .put-proxy-req .ensures)
 
-same-length-2 : tie.Need-same-length-2
-same-length-2 c = search needs
-
 returns-2 : tie.Need-returns-2
 returns-2 c =
     let a = c .before .before .before .before .before .before .before .before .before .before .args in
     asks (a .port) (six (a .asked .bytes) (a .text .now) (c .before .before .before .before .before .enum-told2 .given .1)) (c .before .before .put-proxy-req2 .ensures)
-
-same-length-3 : tie.Need-same-length-3
-same-length-3 c = search needs
 
 returns-3 : tie.Need-returns-3
 returns-3 c =
@@ -82,18 +61,18 @@ pub put-proxy-spec : {M : Type 1} → statement M
 put-proxy-spec =
     tie.close
     (tie.spec
-    enum-told
+    (λ c. search needs)
     array-share-prefix-ip
     slice-aggregate-put-proxy-req
     put-proxy-req-requires
-    enum-told-2
-    slice-aggregate-put-proxy-req-2
+    (λ c. search needs)
+    (λ c. search needs)
     put-proxy-req-requires-2
-    enum-told-3
+    (λ c. search needs)
     put-proxy-req-requires-3
-    same-length
+    (λ c. search needs)
     returns
-    same-length-2
+    (λ c. search needs)
     returns-2
-    same-length-3
+    (λ c. search needs)
     returns-3)

@@ -7,15 +7,6 @@ use Rattle.load.proofs.add.Tie as tie
 returns : tie.Need-returns
 returns c = none-added (c .before .before .args .tally) (c .before .before .args .out .now) (c .if1 .taken) (search needs) (search needs)
 
-wrapping-add-u64-requires : tie.Need-wrapping-add-u64-requires
-wrapping-add-u64-requires c κs = search needs
-
-total-requires : tie.Need-total-requires
-total-requires c κs = search needs
-
-wrapping-add-u64-requires-2 : tie.Need-wrapping-add-u64-requires-2
-wrapping-add-u64-requires-2 c κs = search needs
-
 returns-2 : tie.Need-returns-2
 returns-2 c = rw (length-take-le (c .before .before .before .before .before .args .n) (c .before .before .before .before .before .args .out .now) (search needs), ← c .before .total .ensures, ← c .before .before .wrapping-add-u64 .ensures, ← c .wrapping-add-u642 .ensures)
 
@@ -24,7 +15,7 @@ add-spec =
     tie.close
     (tie.spec
     returns
-    wrapping-add-u64-requires
-    total-requires
-    wrapping-add-u64-requires-2
+    (λ c κs. search needs)
+    (λ c κs. search needs)
+    (λ c κs. search needs)
     returns-2)

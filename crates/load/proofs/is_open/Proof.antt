@@ -2,18 +2,6 @@ use borrow.Author.Needs.{needs}
 use Rattle.load.proofs.is_open.Statement.{statement}
 use Rattle.load.proofs.is_open.Tie as tie
 
-outcome-requires : tie.Need-outcome-requires
-outcome-requires c κs = search needs
-
-enum-told : tie.Need-enum-told
-enum-told c = search needs
-
-enum-told-2 : tie.Need-enum-told-2
-enum-told-2 c = search needs
-
-enum-known-error : tie.Need-enum-known-error
-enum-known-error c = search needs
-
 returns : tie.Need-returns
 returns c = rw (← c .before .before .outcome .ensures, c .enum-told .given .1)
 
@@ -26,4 +14,9 @@ returns-3 c = rw (← c .before .before .before .outcome .ensures, c .before .er
 pub is-open-spec : {M : Type 1} → statement M
 is-open-spec =
     tie.close
-    (tie.spec outcome-requires enum-told enum-told-2 enum-known-error returns returns-2 returns-3)
+    (tie.spec
+    (λ c κs. search needs)
+    (λ c. search needs)
+    (λ c. search needs)
+    (λ c. search needs)
+    returns returns-2 returns-3)

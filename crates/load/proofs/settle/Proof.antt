@@ -3,17 +3,15 @@ use borrow.Author.Needs.{needs}
 use Rattle.load.proofs.settle.Statement.{statement}
 use Rattle.load.proofs.settle.Tie as tie
 
-is-open-requires : tie.Need-is-open-requires
-is-open-requires c κs = search needs
-
 returns : tie.Need-returns
 returns c = rw (← c .before .is-open .ensures, not-true (c .before .is-open .result) (c .if1 .taken))
-
-wrapping-add-u64-requires : tie.Need-wrapping-add-u64-requires
-wrapping-add-u64-requires c κs = search needs
 
 returns-2 : tie.Need-returns-2
 returns-2 c = rw (← c .before .before .is-open .ensures, not-false (c .before .before .is-open .result) (c .before .if1 .left), c .wrapping-add-u64 .ensures)
 
 pub settle-spec : {M : Type 1} → statement M
-settle-spec = tie.close (tie.spec is-open-requires returns wrapping-add-u64-requires returns-2)
+settle-spec = tie.close (tie.spec
+    (λ c κs. search needs)
+    returns
+    (λ c κs. search needs)
+    returns-2)

@@ -3,12 +3,6 @@ use borrow.Author.Needs.{needs}
 use Rattle.lookup.proofs.step.Statement.{statement}
 use Rattle.lookup.proofs.step.Tie as tie
 
-serves-requires : tie.Need-serves-requires
-serves-requires c κs = search needs
-
-takes-requires : tie.Need-takes-requires
-takes-requires c κs = search needs
-
 returns : tie.Need-returns
 returns c = rw (sym (c .before .before .serves .ensures), sym (c .before .takes .ensures) ∙ c .if1 .taken)
 
@@ -16,4 +10,7 @@ returns-2 : tie.Need-returns-2
 returns-2 c = rw (sym (c .before .before .serves .ensures), sym (c .before .takes .ensures) ∙ c .if1 .left)
 
 pub step-spec : {M : Type 1} → statement M
-step-spec = tie.close (tie.spec serves-requires takes-requires returns returns-2)
+step-spec = tie.close (tie.spec
+    (λ c κs. search needs)
+    (λ c κs. search needs)
+    returns returns-2)

@@ -4,15 +4,6 @@ use borrow.Author.Needs.{needs}
 use Rattle.openings.proofs.asked.Statement.{statement}
 use Rattle.openings.proofs.asked.Tie as tie
 
-is-name-requires : tie.Need-is-name-requires
-is-name-requires c κs = search needs
-
-both-requires : tie.Need-both-requires
-both-requires c κs = search needs
-
-recorded-requires : tie.Need-recorded-requires
-recorded-requires c κs = search needs
-
 -- a test by its parts
 tested : (found : Bool) {name n b v : Bool} → name ≡ n → b ≡ name && found → b ≡ v → n && found ≡ v
 tested found p q r = ap (λ (x : Bool). x && found) (sym p) ∙ sym q ∙ r
@@ -27,4 +18,8 @@ returns-2 c = rw (tested (c .before .before .before .args .found) (c .before .be
 
 pub asked-spec : {M : Type 1} → statement M
 asked-spec =
-    tie.close (tie.spec is-name-requires both-requires recorded-requires returns returns-2)
+    tie.close (tie.spec
+    (λ c κs. search needs)
+    (λ c κs. search needs)
+    (λ c κs. search needs)
+    returns returns-2)

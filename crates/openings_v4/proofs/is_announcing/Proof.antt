@@ -8,35 +8,20 @@ use Rattle.openings_v4.proofs.is_announcing.Tie as tie
 sixteen : (c : tie.Start) → length (c .args .asked .bytes) ≡ 16
 sixteen c = search needs
 
-enum-told : tie.Need-enum-told
-enum-told c = search needs
-
-announces-name-requires : tie.Need-announces-name-requires
-announces-name-requires c κs = search needs
-
-enum-told-2 : tie.Need-enum-told-2
-enum-told-2 c = search needs
-
-enum-told-3 : tie.Need-enum-told-3
-enum-told-3 c = search needs
-
 returns : tie.Need-returns
 returns c = rw (c .before .enum-told .given .1) (c .announces-name .ensures)
 
 returns-2 : tie.Need-returns-2
 returns-2 c = rw (c .enum-told2 .given .1) (sixteen-silent (c .before .before .before .args .asked .bytes) (sixteen (c .before .before .before)))
 
-returns-3 : tie.Need-returns-3
-returns-3 c = search needs
-
 pub is-announcing-spec : {M : Type 1} → statement M
 is-announcing-spec =
     tie.close
     (tie.spec
-    enum-told
-    announces-name-requires
-    enum-told-2
-    enum-told-3
+    (λ c. search needs)
+    (λ c κs. search needs)
+    (λ c. search needs)
+    (λ c. search needs)
     returns
     returns-2
-    returns-3)
+    (λ c. search needs))

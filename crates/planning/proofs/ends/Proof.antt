@@ -2,12 +2,6 @@ use borrow.Author.Needs.{needs}
 use Rattle.planning.proofs.ends.Statement.{statement}
 use Rattle.planning.proofs.ends.Tie as tie
 
-enum-told : tie.Need-enum-told
-enum-told c = search needs
-
-enum-known-answer : tie.Need-enum-known-answer
-enum-known-answer c = search needs
-
 returns : tie.Need-returns
 returns c = rw (c .enum-told .given .1)
 
@@ -15,4 +9,7 @@ returns-2 : tie.Need-returns-2
 returns-2 c = rw (c .before .answer .given .1)
 
 pub ends-spec : {M : Type 1} → statement M
-ends-spec = tie.close (tie.spec enum-told enum-known-answer returns returns-2)
+ends-spec = tie.close (tie.spec
+    (λ c. search needs)
+    (λ c. search needs)
+    returns returns-2)

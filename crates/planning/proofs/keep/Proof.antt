@@ -6,12 +6,6 @@ use borrow.Author.Needs.{needs}
 use Rattle.planning.proofs.keep.Statement.{statement}
 use Rattle.planning.proofs.keep.Tie as tie
 
-mul-copy : tie.Need-mul-copy
-mul-copy c = search needs
-
-slice-aggregate-copy : tie.Need-slice-aggregate-copy
-slice-aggregate-copy c = search needs
-
 bytes-long : (c : tie.Start) → length (c .args .session .requests .bytes) ≡ 1024
 bytes-long c = search needs
 
@@ -20,18 +14,6 @@ copy-requires c κs =
     let start = c .before .before .before .before .before .before in
     let (few, whole) = start .pre in
     omega (arith, bytes-long start)
-
-first-in-requires : tie.Need-first-in-requires
-first-in-requires c κs = search needs
-
-mul-hops : tie.Need-mul-hops
-mul-hops c = search needs
-
-array-set-from-hops : tie.Need-array-set-from-hops
-array-set-from-hops c = search needs
-
-same-length : tie.Need-same-length
-same-length c = search needs
 
 returns : tie.Need-returns
 returns c =
@@ -43,11 +25,11 @@ pub keep-spec : {M : Type 1} → statement M
 keep-spec =
     tie.close
     (tie.spec
-    mul-copy
-    slice-aggregate-copy
+    (λ c. search needs)
+    (λ c. search needs)
     copy-requires
-    first-in-requires
-    mul-hops
-    array-set-from-hops
-    same-length
+    (λ c κs. search needs)
+    (λ c. search needs)
+    (λ c. search needs)
+    (λ c. search needs)
     returns)

@@ -7,15 +7,6 @@ use borrow.Author.Needs.{needs}
 use Rattle.proxy_calls.proofs.credential_of.Statement.{statement}
 use Rattle.proxy_calls.proofs.credential_of.Tie as tie
 
-slice-aggregate-copy : tie.Need-slice-aggregate-copy
-slice-aggregate-copy c = search needs
-
-copy-requires : tie.Need-copy-requires
-copy-requires c κs = search needs
-
-cast-t7 : tie.Need-cast-t7
-cast-t7 c = search needs
-
 returns : tie.Need-returns
 returns c =
     let a = c .before .before .before .before in
@@ -23,4 +14,8 @@ returns c =
     λ i. record { len = n i; bytes = zeros-under 255 (c .before .copy .ensures) i }
 
 pub credential-of-spec : {M : Type 1} → statement M
-credential-of-spec = tie.close (tie.spec slice-aggregate-copy copy-requires cast-t7 returns)
+credential-of-spec = tie.close (tie.spec
+    (λ c. search needs)
+    (λ c κs. search needs)
+    (λ c. search needs)
+    returns)

@@ -5,23 +5,8 @@ use borrow.Author.Needs.{needs}
 use Rattle.proxy_calls.proofs.set_up.Statement.{statement}
 use Rattle.proxy_calls.proofs.set_up.Tie as tie
 
-slice-aggregate-credential-of : tie.Need-slice-aggregate-credential-of
-slice-aggregate-credential-of c = search needs
-
-credential-of-requires : tie.Need-credential-of-requires
-credential-of-requires c κs = search needs
-
-credentials-too-long-requires : tie.Need-credentials-too-long-requires
-credentials-too-long-requires c κs = search needs
-
-fresh-requires : tie.Need-fresh-requires
-fresh-requires c κs = search needs
-
 returns : tie.Need-returns
 returns c = set-refused (c .before .before .before .before .before .before .before .args .authenticates) (c .before .before .before .before .before .before .before .args .user .now) (c .before .before .before .before .before .before .before .args .password .now) (c .before .before .before .credential-of .ensures) (sym (c .before .before .credentials-too-long .ensures) ∙ (c .before .if1 .taken)) (c .fresh .ensures)
-
-fresh-requires-2 : tie.Need-fresh-requires-2
-fresh-requires-2 c κs = search needs
 
 returns-2 : tie.Need-returns-2
 returns-2 c = set-without (c .before .before .before .before .before .before .before .before .args .authenticates) (c .before .before .before .before .before .before .before .before .args .user .now) (c .before .before .before .before .before .before .before .before .args .password .now) (c .before .before .before .before .credential-of .ensures) (sym (c .before .before .before .credentials-too-long .ensures) ∙ (c .before .before .if1 .left)) (not-true _ (c .before .if2 .taken)) (c .fresh2 .ensures)
@@ -32,9 +17,6 @@ credential-of-requires-2 c κs = short-enough (c .before .before .before .before
 credential-of-requires-3 : tie.Need-credential-of-requires-3
 credential-of-requires-3 c κs = short-enough (c .before .before .before .before .before .before .before .before .args .authenticates) (c .before .before .before .before .before .before .before .before .args .user .now) (c .before .before .before .before .before .before .before .before .args .password .now) (sym (c .before .before .before .credentials-too-long .ensures) ∙ (c .before .before .if1 .left)) (not-false _ (c .before .if2 .left)) .1
 
-fresh-requires-3 : tie.Need-fresh-requires-3
-fresh-requires-3 c κs = search needs
-
 returns-3 : tie.Need-returns-3
 returns-3 c = set-with (c .before .before .before .before .before .before .before .before .before .before .args .authenticates) (c .before .before .before .before .before .before .before .before .before .before .args .user .now) (c .before .before .before .before .before .before .before .before .before .before .args .password .now) (sym (c .before .before .before .before .before .credentials-too-long .ensures) ∙ (c .before .before .before .before .if1 .left)) (not-false _ (c .before .before .before .if2 .left)) (c .before .before .credential-of2 .ensures) (c .before .credential-of3 .ensures) (c .fresh3 .ensures)
 
@@ -42,14 +24,14 @@ pub set-up-spec : {M : Type 1} → statement M
 set-up-spec =
     tie.close
     (tie.spec
-    slice-aggregate-credential-of
-    credential-of-requires
-    credentials-too-long-requires
-    fresh-requires
+    (λ c. search needs)
+    (λ c κs. search needs)
+    (λ c κs. search needs)
+    (λ c κs. search needs)
     returns
-    fresh-requires-2
+    (λ c κs. search needs)
     returns-2
     credential-of-requires-2
     credential-of-requires-3
-    fresh-requires-3
+    (λ c κs. search needs)
     returns-3)

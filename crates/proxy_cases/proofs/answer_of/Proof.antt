@@ -3,17 +3,8 @@ use borrow.Author.Needs.{needs}
 use Rattle.proxy_cases.proofs.answer_of.Statement.{statement}
 use Rattle.proxy_cases.proofs.answer_of.Tie as tie
 
-number-at-requires : tie.Need-number-at-requires
-number-at-requires c κs = search needs
-
-byte-at-requires : tie.Need-byte-at-requires
-byte-at-requires c κs = search needs
-
 record-at-requires : tie.Need-record-at-requires
 record-at-requires c κs = answer-there (c .before .before .before .args .s .now) (c .before .before .before .pre .0) (c .before .before .before .pre .1)
-
-number-at-requires-2 : tie.Need-number-at-requires-2
-number-at-requires-2 c κs = search needs
 
 returns : tie.Need-returns
 returns c = rw (c .before .before .before .number-at .ensures, c .before .before .byte-at .ensures, c .before .record-at .ensures, c .number-at2 .ensures)
@@ -21,4 +12,9 @@ returns c = rw (c .before .before .before .number-at .ensures, c .before .before
 pub answer-of-spec : {M : Type 1} → statement M
 answer-of-spec =
     tie.close
-    (tie.spec number-at-requires byte-at-requires record-at-requires number-at-requires-2 returns)
+    (tie.spec
+    (λ c κs. search needs)
+    (λ c κs. search needs)
+    record-at-requires
+    (λ c κs. search needs)
+    returns)

@@ -10,11 +10,10 @@ sub-result c = first-there (c .args .s .now) (c .pre .0) (c .pre .1)
 part-result-start : tie.Need-part-result-start
 part-result-start c = first-there (c .args .s .now) (c .pre .0) (c .pre .1)
 
-part-result-end : tie.Need-part-result-end
-part-result-end c = search needs
-
 returns : tie.Need-returns
 returns c = delivery-there (c .before .args .s .now) (c .before .pre .0) (c .before .pre .1) _ refl
 
 pub delivery-spec : {M : Type 1} → statement M
-delivery-spec = tie.close (tie.spec sub-result part-result-start part-result-end returns)
+delivery-spec = tie.close (tie.spec sub-result part-result-start
+    (λ c. search needs)
+    returns)

@@ -2,11 +2,10 @@ use borrow.Author.Needs.{needs}
 use Rattle.proxy_cases.proofs.is_answer.Statement.{statement}
 use Rattle.proxy_cases.proofs.is_answer.Tie as tie
 
-byte-at-requires : tie.Need-byte-at-requires
-byte-at-requires c κs = search needs
-
 returns : tie.Need-returns
 returns c = rw (c .byte-at .ensures)
 
 pub is-answer-spec : {M : Type 1} → statement M
-is-answer-spec = tie.close (tie.spec byte-at-requires returns)
+is-answer-spec = tie.close (tie.spec
+    (λ c κs. search needs)
+    returns)

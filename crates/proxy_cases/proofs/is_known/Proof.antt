@@ -4,20 +4,8 @@ use borrow.Author.Needs.{needs}
 use Rattle.proxy_cases.proofs.is_known.Statement.{statement}
 use Rattle.proxy_cases.proofs.is_known.Tie as tie
 
-is-answer-requires : tie.Need-is-answer-requires
-is-answer-requires c κs = search needs
-
-byte-at-requires : tie.Need-byte-at-requires
-byte-at-requires c κs = search needs
-
-is-family-requires : tie.Need-is-family-requires
-is-family-requires c κs = search needs
-
 returns : tie.Need-returns
 returns c = answer-known (c .before .before .before .before .before .args .s .now) _ (sym (c .before .before .before .is-answer .ensures) ∙ c .before .before .if1 .taken) (rw (c .before .byte-at .ensures) at (c .is-family .ensures))
-
-byte-at-requires-2 : tie.Need-byte-at-requires-2
-byte-at-requires-2 c κs = search needs
 
 returns-2 : tie.Need-returns-2
 returns-2 c = delivery-known (c .before .before .before .before .args .s .now) _ (sym (c .before .before .is-answer .ensures) ∙ c .before .if1 .left) (c .byte-at2 .ensures)
@@ -26,9 +14,9 @@ pub is-known-spec : {M : Type 1} → statement M
 is-known-spec =
     tie.close
     (tie.spec
-    is-answer-requires
-    byte-at-requires
-    is-family-requires
+    (λ c κs. search needs)
+    (λ c κs. search needs)
+    (λ c κs. search needs)
     returns
-    byte-at-requires-2
+    (λ c κs. search needs)
     returns-2)

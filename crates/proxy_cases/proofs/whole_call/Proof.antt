@@ -5,14 +5,8 @@ use borrow.Author.Needs.{needs}
 use Rattle.proxy_cases.proofs.whole_call.Statement.{statement}
 use Rattle.proxy_cases.proofs.whole_call.Tie as tie
 
-call-size-requires : tie.Need-call-size-requires
-call-size-requires c κs = search needs
-
 returns : tie.Need-returns
 returns c = cut-off _ _ (c .before .call-size .ensures) (c .if1 .taken)
-
-is-known-requires : tie.Need-is-known-requires
-is-known-requires c κs = search needs
 
 returns-2 : tie.Need-returns-2
 returns-2 c =
@@ -26,4 +20,8 @@ returns-3 c =
 
 pub whole-call-spec : {M : Type 1} → statement M
 whole-call-spec =
-    tie.close (tie.spec call-size-requires returns is-known-requires returns-2 returns-3)
+    tie.close (tie.spec
+    (λ c κs. search needs)
+    returns
+    (λ c κs. search needs)
+    returns-2 returns-3)

@@ -3,20 +3,8 @@ use borrow.Author.Needs.{needs}
 use Rattle.proxy_course.proofs.last_of.Statement.{statement}
 use Rattle.proxy_course.proofs.last_of.Tie as tie
 
-outcome-requires : tie.Need-outcome-requires
-outcome-requires c κs = search needs
-
 returns : tie.Need-returns
 returns c = rw (not-true (c .before .before .args .ends) (c .before .if1 .taken), c .outcome .ensures)
-
-end-requires : tie.Need-end-requires
-end-requires c κs = search needs
-
-outcome-requires-2 : tie.Need-outcome-requires-2
-outcome-requires-2 c κs = search needs
-
-answer-number-requires : tie.Need-answer-number-requires
-answer-number-requires c κs = search needs
 
 returns-2 : tie.Need-returns-2
 returns-2 c = rw (not-false (c .before .before .before .before .before .args .ends) (c .before .before .before .before .if1 .left), c .answer-number .ensures, c .before .outcome2 .ensures, c .before .before .before .end .ensures)
@@ -25,9 +13,9 @@ pub last-of-spec : {M : Type 1} → statement M
 last-of-spec =
     tie.close
     (tie.spec
-    outcome-requires
+    (λ c κs. search needs)
     returns
-    end-requires
-    outcome-requires-2
-    answer-number-requires
+    (λ c κs. search needs)
+    (λ c κs. search needs)
+    (λ c κs. search needs)
     returns-2)

@@ -14,12 +14,6 @@ spaced : (c : tie.Start) {bs o : List ℕ} {end : ℕ} → Adds (set (c .args .t
     → Adds (c .args .text .now) (c .args .at) (space ++ bs) end o
 spaced c v = then (one (c .args .text .now) (c .args .at) 0x20 (omega arith)) v
 
-slice-write-text : tie.Need-slice-write-text
-slice-write-text c = search needs
-
-add-put-destination : tie.Need-add-put-destination
-add-put-destination c = search needs
-
 put-destination-requires : tie.Need-put-destination-requires
 put-destination-requires c κs = simp length-set (omega arith)
 
@@ -27,9 +21,6 @@ slice-write-text-2 : tie.Need-slice-write-text-2
 slice-write-text-2 c =
     let k = spaced (c .before .before .before .before .before) (c .before .before .put-destination .ensures .1) in
     omega (arith, k .same)
-
-add-result : tie.Need-add-result
-add-result c = search needs
 
 same-length : tie.Need-same-length
 same-length c =
@@ -47,10 +38,10 @@ pub put-close-spec : {M : Type 1} → statement M
 put-close-spec =
     tie.close
     (tie.spec
-    slice-write-text
-    add-put-destination
+    (λ c. search needs)
+    (λ c. search needs)
     put-destination-requires
     slice-write-text-2
-    add-result
+    (λ c. search needs)
     same-length
     returns)

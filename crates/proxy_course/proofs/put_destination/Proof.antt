@@ -12,18 +12,6 @@ use Rattle.proxy_course.proofs.put_destination.Tie as tie
 long : (c : tie.Start) → length (c .args .target .bytes) ≡ 1014
 long c = search needs
 
-least-requires : tie.Need-least-requires
-least-requires c κs = search needs
-
-slice-write-text : tie.Need-slice-write-text
-slice-write-text c = search needs
-
-add-result : tie.Need-add-result
-add-result c = search needs
-
-same-length : tie.Need-same-length
-same-length c = search needs
-
 returns : tie.Need-returns
 unfolding destinationText
 returns c = (search needs, rw (← c .before .least .ensures, eq-eqb _ _ (c .if1 .taken)) (one _ _ _ (omega arith)))
@@ -37,9 +25,6 @@ slice-aggregate-put-target c = sym (part-length _ _ _ (c .before .before .before
 put-target-requires : tie.Need-put-target-requires
 put-target-requires c κs = part-room _ _ _ (c .before .before .before .before .least .ensures) (long (c .before .before .before .before .before .before)) _ _ (c .before .before .before .before .before .before .pre)
 
-same-length-2 : tie.Need-same-length-2
-same-length-2 c = search needs
-
 returns-2 : tie.Need-returns-2
 unfolding destinationText
 returns-2 c =
@@ -52,13 +37,13 @@ pub put-destination-spec : {M : Type 1} → statement M
 put-destination-spec =
     tie.close
     (tie.spec
-    least-requires
-    slice-write-text
-    add-result
-    same-length
+    (λ c κs. search needs)
+    (λ c. search needs)
+    (λ c. search needs)
+    (λ c. search needs)
     returns
     array-share-prefix-bytes
     slice-aggregate-put-target
     put-target-requires
-    same-length-2
+    (λ c. search needs)
     returns-2)

@@ -12,20 +12,8 @@ use Rattle.proxy_course.proofs.put_target.Tie as tie
 head : (c : tie.Start) (k : ℕ) → Adds (c .args .text .now) (c .args .at) (k ∷ 0x3A ∷ []) (c .args .at + 2) (set (set (c .args .text .now) (c .args .at) k) (c .args .at + 1) 0x3A)
 head c k = two (c .args .text .now) (c .args .at) k 0x3A (omega arith)
 
-kind-byte-requires : tie.Need-kind-byte-requires
-kind-byte-requires c κs = search needs
-
-slice-write-text : tie.Need-slice-write-text
-slice-write-text c = search needs
-
-add-text : tie.Need-add-text
-add-text c = search needs
-
 slice-write-text-2 : tie.Need-slice-write-text-2
 slice-write-text-2 c = simp length-set (omega arith)
-
-add-put-hex : tie.Need-add-put-hex
-add-put-hex c = search needs
 
 put-hex-requires : tie.Need-put-hex-requires
 put-hex-requires c κs = simp length-set (omega arith)
@@ -34,9 +22,6 @@ slice-write-text-3 : tie.Need-slice-write-text-3
 slice-write-text-3 c =
     let k = then (head (c .before .before .before .before .before .before .before) (c .before .before .before .before .kind-byte .result)) (c .before .before .put-hex .ensures .1) in
     omega (arith, k .same)
-
-add-put-decimal : tie.Need-add-put-decimal
-add-put-decimal c = search needs
 
 put-decimal-requires : tie.Need-put-decimal-requires
 put-decimal-requires c κs =
@@ -64,14 +49,14 @@ pub put-target-spec : {M : Type 1} → statement M
 put-target-spec =
     tie.close
     (tie.spec
-    kind-byte-requires
-    slice-write-text
-    add-text
+    (λ c κs. search needs)
+    (λ c. search needs)
+    (λ c. search needs)
     slice-write-text-2
-    add-put-hex
+    (λ c. search needs)
     put-hex-requires
     slice-write-text-3
-    add-put-decimal
+    (λ c. search needs)
     put-decimal-requires
     same-length
     returns)

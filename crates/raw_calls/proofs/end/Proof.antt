@@ -3,17 +3,12 @@ use borrow.Author.Needs.{needs}
 use Rattle.raw_calls.proofs.end.Statement.{statement}
 use Rattle.raw_calls.proofs.end.Tie as tie
 
-session-of-requires : tie.Need-session-of-requires
-session-of-requires c κs = search needs
-
-end-requires : tie.Need-end-requires
-end-requires c κs = search needs
-
-step-requires : tie.Need-step-requires
-step-requires c κs = search needs
-
 returns : tie.Need-returns
 returns c = says-ended (c .before .before .before .before .args .session) (c .before .before .before .session-of .ensures) (c .before .before .end .ensures) (c .step .ensures)
 
 pub end-spec : {M : Type 1} → statement M
-end-spec = tie.close (tie.spec session-of-requires end-requires step-requires returns)
+end-spec = tie.close (tie.spec
+    (λ c κs. search needs)
+    (λ c κs. search needs)
+    (λ c κs. search needs)
+    returns)

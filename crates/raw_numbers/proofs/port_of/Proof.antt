@@ -4,9 +4,6 @@ use borrow.Author.Needs.{needs}
 use Rattle.raw_numbers.proofs.port_of.Statement.{statement}
 use Rattle.raw_numbers.proofs.port_of.Tie as tie
 
-cast-t3 : tie.Need-cast-t3
-cast-t3 c = search needs
-
 returns : tie.Need-returns
 unfolding portOf
 returns c = simp (lt-ltb _ _ (c .if1 .taken))
@@ -16,4 +13,6 @@ unfolding portOf
 returns-2 c = simp (le-ltb _ _ (c .if1 .left))
 
 pub port-of-spec : {M : Type 1} → statement M
-port-of-spec = tie.close (tie.spec cast-t3 returns returns-2)
+port-of-spec = tie.close (tie.spec
+    (λ c. search needs)
+    returns returns-2)

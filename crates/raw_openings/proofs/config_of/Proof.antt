@@ -3,17 +3,12 @@ use borrow.Author.Needs.{needs}
 use Rattle.raw_openings.proofs.config_of.Statement.{statement}
 use Rattle.raw_openings.proofs.config_of.Tie as tie
 
-truth-requires : tie.Need-truth-requires
-truth-requires c κs = search needs
-
-truth-requires-2 : tie.Need-truth-requires-2
-truth-requires-2 c κs = search needs
-
-truth-requires-3 : tie.Need-truth-requires-3
-truth-requires-3 c κs = search needs
-
 returns : tie.Need-returns
 returns c = config-as (c .before .before .before .args .raw) (c .before .before .truth .ensures) (c .before .truth2 .ensures) (c .truth3 .ensures)
 
 pub config-of-spec : {M : Type 1} → statement M
-config-of-spec = tie.close (tie.spec truth-requires truth-requires-2 truth-requires-3 returns)
+config-of-spec = tie.close (tie.spec
+    (λ c κs. search needs)
+    (λ c κs. search needs)
+    (λ c κs. search needs)
+    returns)

@@ -3,18 +3,13 @@ use borrow.Author.Needs.{needs}
 use Rattle.raw_proxy.proofs.end.Statement.{statement}
 use Rattle.raw_proxy.proofs.end.Tie as tie
 
-server-of-requires : tie.Need-server-of-requires
-server-of-requires c κs = search needs
-
-end-requires : tie.Need-end-requires
-end-requires c κs = search needs
-
-served-requires : tie.Need-served-requires
-served-requires c κs = search needs
-
 returns : tie.Need-returns
 returns c = says-ended (c .before .before .before .before .args .server) (c .before .before .before .server-of .ensures) (c .before .before .end .ensures) (c .served .ensures)
 
 pub end-spec : {M : Type 1} → statement M
 end-spec =
-    tie.close (tie.spec server-of-requires end-requires served-requires returns)
+    tie.close (tie.spec
+    (λ c κs. search needs)
+    (λ c κs. search needs)
+    (λ c κs. search needs)
+    returns)

@@ -3,11 +3,10 @@ use borrow.Author.Needs.{needs}
 use Rattle.raw_proxy.proofs.record_of.Statement.{statement}
 use Rattle.raw_proxy.proofs.record_of.Tie as tie
 
-family-of-requires : tie.Need-family-of-requires
-family-of-requires c κs = search needs
-
 returns : tie.Need-returns
 returns c = record-as (c .before .before .args .raw) (c .family-of .ensures)
 
 pub record-of-spec : {M : Type 1} → statement M
-record-of-spec = tie.close (tie.spec family-of-requires returns)
+record-of-spec = tie.close (tie.spec
+    (λ c κs. search needs)
+    returns)

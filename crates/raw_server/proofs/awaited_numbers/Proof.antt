@@ -4,60 +4,6 @@ use borrow.Author.Needs.{needs}
 use Rattle.raw_server.proofs.awaited_numbers.Statement.{statement}
 use Rattle.raw_server.proofs.awaited_numbers.Tie as tie
 
-enum-told : tie.Need-enum-told
-enum-told c = search needs
-
-numbered-requires : tie.Need-numbered-requires
-numbered-requires c κs = search needs
-
-enum-told-2 : tie.Need-enum-told-2
-enum-told-2 c = search needs
-
-numbered-requires-2 : tie.Need-numbered-requires-2
-numbered-requires-2 c κs = search needs
-
-enum-told-3 : tie.Need-enum-told-3
-enum-told-3 c = search needs
-
-numbered-requires-3 : tie.Need-numbered-requires-3
-numbered-requires-3 c κs = search needs
-
-enum-known-field : tie.Need-enum-known-field
-enum-known-field c = search needs
-
-password-number-requires : tie.Need-password-number-requires
-password-number-requires c κs = search needs
-
-numbered-requires-4 : tie.Need-numbered-requires-4
-numbered-requires-4 c κs = search needs
-
-enum-told-4 : tie.Need-enum-told-4
-enum-told-4 c = search needs
-
-numbered-requires-5 : tie.Need-numbered-requires-5
-numbered-requires-5 c κs = search needs
-
-enum-known-field-2 : tie.Need-enum-known-field-2
-enum-known-field-2 c = search needs
-
-enum-told-5 : tie.Need-enum-told-5
-enum-told-5 c = search needs
-
-numbered-requires-6 : tie.Need-numbered-requires-6
-numbered-requires-6 c κs = search needs
-
-enum-known-field-3 : tie.Need-enum-known-field-3
-enum-known-field-3 c = search needs
-
-with-ports-requires : tie.Need-with-ports-requires
-with-ports-requires c κs = search needs
-
-enum-known-field-4 : tie.Need-enum-known-field-4
-enum-known-field-4 c = search needs
-
-with-ports-requires-2 : tie.Need-with-ports-requires-2
-with-ports-requires-2 c κs = search needs
-
 returns : tie.Need-returns
 returns c = rw (c .before .enum-told .given .1) (c .numbered .ensures)
 
@@ -89,24 +35,24 @@ pub awaited-numbers-spec : {M : Type 1} → statement M
 awaited-numbers-spec =
     tie.close
     (tie.spec
-    enum-told
-    numbered-requires
-    enum-told-2
-    numbered-requires-2
-    enum-told-3
-    numbered-requires-3
-    enum-known-field
-    password-number-requires
-    numbered-requires-4
-    enum-told-4
-    numbered-requires-5
-    enum-known-field-2
-    enum-told-5
-    numbered-requires-6
-    enum-known-field-3
-    with-ports-requires
-    enum-known-field-4
-    with-ports-requires-2
+    (λ c. search needs)
+    (λ c κs. search needs)
+    (λ c. search needs)
+    (λ c κs. search needs)
+    (λ c. search needs)
+    (λ c κs. search needs)
+    (λ c. search needs)
+    (λ c κs. search needs)
+    (λ c κs. search needs)
+    (λ c. search needs)
+    (λ c κs. search needs)
+    (λ c. search needs)
+    (λ c. search needs)
+    (λ c κs. search needs)
+    (λ c. search needs)
+    (λ c κs. search needs)
+    (λ c. search needs)
+    (λ c κs. search needs)
     returns
     returns-2
     returns-3

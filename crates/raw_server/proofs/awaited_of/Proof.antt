@@ -36,15 +36,9 @@ returns-8 : tie.Need-returns-8
 unfolding awaitedOf
 returns-8 c = simp (ne-eqb _ _ (c .before .before .before .before .before .before .before .before .before .before .before .before .before .before .if1 .left), ne-eqb _ _ (c .before .before .before .before .before .before .before .before .before .before .before .before .if2 .left), ne-eqb _ _ (c .before .before .before .before .before .before .before .before .before .before .if3 .left), ne-eqb _ _ (c .before .before .before .before .before .before .before .before .if4 .left), ne-eqb _ _ (c .before .before .before .before .before .before .if5 .left), ne-eqb _ _ (c .before .before .before .before .if6 .left), ne-eqb _ _ (c .before .before .if7 .left), eq-eqb _ _ (c .if8 .taken))
 
-ports-of-requires : tie.Need-ports-of-requires
-ports-of-requires c κs = search needs
-
 returns-9 : tie.Need-returns-9
 unfolding awaitedOf
 returns-9 c = simp (ne-eqb _ _ (c .before .before .before .before .before .before .before .before .before .before .before .before .before .before .before .before .before .if1 .left), ne-eqb _ _ (c .before .before .before .before .before .before .before .before .before .before .before .before .before .before .before .if2 .left), ne-eqb _ _ (c .before .before .before .before .before .before .before .before .before .before .before .before .before .if3 .left), ne-eqb _ _ (c .before .before .before .before .before .before .before .before .before .before .before .if4 .left), ne-eqb _ _ (c .before .before .before .before .before .before .before .before .before .if5 .left), ne-eqb _ _ (c .before .before .before .before .before .before .before .if6 .left), ne-eqb _ _ (c .before .before .before .before .before .if7 .left), ne-eqb _ _ (c .before .before .before .if8 .left), eq-eqb _ _ (c .before .if9 .taken), ← c .ports-of .ensures)
-
-ports-of-requires-2 : tie.Need-ports-of-requires-2
-ports-of-requires-2 c κs = search needs
 
 returns-10 : tie.Need-returns-10
 unfolding awaitedOf
@@ -62,7 +56,7 @@ awaited-of-spec =
     returns-6
     returns-7
     returns-8
-    ports-of-requires
+    (λ c κs. search needs)
     returns-9
-    ports-of-requires-2
+    (λ c κs. search needs)
     returns-10)

@@ -4,15 +4,9 @@ use borrow.Author.Needs.{needs}
 use Rattle.raw_server.proofs.stage_of.Statement.{statement}
 use Rattle.raw_server.proofs.stage_of.Tie as tie
 
-error-of-requires : tie.Need-error-of-requires
-error-of-requires c κs = search needs
-
 returns : tie.Need-returns
 unfolding stageOf
 returns c = simp (eq-eqb _ _ (c .before .if1 .taken), ← c .error-of .ensures)
-
-awaited-of-requires : tie.Need-awaited-of-requires
-awaited-of-requires c κs = search needs
 
 returns-2 : tie.Need-returns-2
 unfolding stageOf
@@ -34,9 +28,6 @@ returns-6 : tie.Need-returns-6
 unfolding stageOf
 returns-6 c = simp (ne-eqb _ _ (c .before .before .before .before .before .before .before .before .before .before .if1 .left), lt-leb _ _ (c .before .before .before .before .before .before .before .before .if2 .left), ne-eqb _ _ (c .before .before .before .before .before .before .if3 .left), ne-eqb _ _ (c .before .before .before .before .if4 .left), ne-eqb _ _ (c .before .before .if5 .left), eq-eqb _ _ (c .if6 .taken))
 
-error-of-requires-2 : tie.Need-error-of-requires-2
-error-of-requires-2 c κs = search needs
-
 returns-7 : tie.Need-returns-7
 unfolding stageOf
 returns-7 c = simp (ne-eqb _ _ (c .before .before .before .before .before .before .before .before .before .before .before .if1 .left), lt-leb _ _ (c .before .before .before .before .before .before .before .before .before .if2 .left), ne-eqb _ _ (c .before .before .before .before .before .before .before .if3 .left), ne-eqb _ _ (c .before .before .before .before .before .if4 .left), ne-eqb _ _ (c .before .before .before .if5 .left), ne-eqb _ _ (c .before .if6 .left), ← c .error-of2 .ensures)
@@ -45,13 +36,13 @@ pub stage-of-spec : {M : Type 1} → statement M
 stage-of-spec =
     tie.close
     (tie.spec
-    error-of-requires
+    (λ c κs. search needs)
     returns
-    awaited-of-requires
+    (λ c κs. search needs)
     returns-2
     returns-3
     returns-4
     returns-5
     returns-6
-    error-of-requires-2
+    (λ c κs. search needs)
     returns-7)

@@ -4,27 +4,6 @@ use borrow.Author.Needs.{needs}
 use Rattle.raw_server.proofs.standing_of.Statement.{statement}
 use Rattle.raw_server.proofs.standing_of.Tie as tie
 
-enum-known-stage : tie.Need-enum-known-stage
-enum-known-stage c = search needs
-
-enum-known-stage-2 : tie.Need-enum-known-stage-2
-enum-known-stage-2 c = search needs
-
-success-requires : tie.Need-success-requires
-success-requires c κs = search needs
-
-enum-known-stage-3 : tie.Need-enum-known-stage-3
-enum-known-stage-3 c = search needs
-
-enum-known-stage-4 : tie.Need-enum-known-stage-4
-enum-known-stage-4 c = search needs
-
-number-requires : tie.Need-number-requires
-number-requires c κs = search needs
-
-status-requires : tie.Need-status-requires
-status-requires c κs = search needs
-
 returns : tie.Need-returns
 returns c = rw (c .before .stage .given .1) refl
 
@@ -41,13 +20,13 @@ pub standing-of-spec : {M : Type 1} → statement M
 standing-of-spec =
     tie.close
     (tie.spec
-    enum-known-stage
-    enum-known-stage-2
-    success-requires
-    enum-known-stage-3
-    enum-known-stage-4
-    number-requires
-    status-requires
+    (λ c. search needs)
+    (λ c. search needs)
+    (λ c κs. search needs)
+    (λ c. search needs)
+    (λ c. search needs)
+    (λ c κs. search needs)
+    (λ c κs. search needs)
     returns
     returns-2
     returns-3

@@ -32,9 +32,6 @@ returns-7 : tie.Need-returns-7
 unfolding stageOf
 returns-7 c = simp (ne-eqb _ _ (c .before .before .before .before .before .before .if1 .left), ne-eqb _ _ (c .before .before .before .before .before .if2 .left), ne-eqb _ _ (c .before .before .before .before .if3 .left), ne-eqb _ _ (c .before .before .before .if4 .left), ne-eqb _ _ (c .before .before .if5 .left), ne-eqb _ _ (c .before .if6 .left), eq-eqb _ _ (c .if7 .taken))
 
-error-of-requires : tie.Need-error-of-requires
-error-of-requires c κs = search needs
-
 returns-8 : tie.Need-returns-8
 unfolding stageOf
 returns-8 c = simp (ne-eqb _ _ (c .before .before .before .before .before .before .before .if1 .left), ne-eqb _ _ (c .before .before .before .before .before .before .if2 .left), ne-eqb _ _ (c .before .before .before .before .before .if3 .left), ne-eqb _ _ (c .before .before .before .before .if4 .left), ne-eqb _ _ (c .before .before .before .if5 .left), ne-eqb _ _ (c .before .before .if6 .left), ne-eqb _ _ (c .before .if7 .left), ← c .error-of .ensures)
@@ -50,5 +47,5 @@ stage-of-spec =
     returns-5
     returns-6
     returns-7
-    error-of-requires
+    (λ c κs. search needs)
     returns-8)

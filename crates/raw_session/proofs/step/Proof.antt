@@ -4,22 +4,15 @@ use borrow.Author.Needs.{needs}
 use Rattle.raw_session.proofs.step.Statement.{statement}
 use Rattle.raw_session.proofs.step.Tie as tie
 
-outcome-requires : tie.Need-outcome-requires
-outcome-requires c κs = search needs
-
-raw-of-requires : tie.Need-raw-of-requires
-raw-of-requires c κs = search needs
-
-answer-number-requires : tie.Need-answer-number-requires
-answer-number-requires c κs = search needs
-
-outcome-of-requires : tie.Need-outcome-of-requires
-outcome-of-requires c κs = search needs
-
 returns : tie.Need-returns
 returns c = let s = c .before .before .before .before .args .session in step-as (c .before .before .before .before .args .answer) s (c .before .before .before .before .args .used) (c .before .before .before .before .args .sent) (c .before .before .before .outcome .ensures (s .bound) (heldBytes s)) (c .before .before .raw-of .ensures) (c .before .answer-number .ensures) (c .outcome-of .ensures)
 
 pub step-spec : {M : Type 1} → statement M
 step-spec =
     tie.close
-    (tie.spec outcome-requires raw-of-requires answer-number-requires outcome-of-requires returns)
+    (tie.spec
+    (λ c κs. search needs)
+    (λ c κs. search needs)
+    (λ c κs. search needs)
+    (λ c κs. search needs)
+    returns)

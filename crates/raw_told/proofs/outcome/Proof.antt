@@ -3,18 +3,13 @@ use borrow.Author.Needs.{needs}
 use Rattle.raw_told.proofs.outcome.Statement.{statement}
 use Rattle.raw_told.proofs.outcome.Tie as tie
 
-session-of-requires : tie.Need-session-of-requires
-session-of-requires c κs = search needs
-
-outcome-requires : tie.Need-outcome-requires
-outcome-requires c κs = search needs
-
-outcome-of-requires : tie.Need-outcome-of-requires
-outcome-of-requires c κs = search needs
-
 returns : tie.Need-returns
 returns c = says-outcome (c .before .before .before .args .session) (c .before .before .session-of .ensures) (c .before .outcome .ensures) (c .outcome-of .ensures)
 
 pub outcome-spec : {M : Type 1} → statement M
 outcome-spec =
-    tie.close (tie.spec session-of-requires outcome-requires outcome-of-requires returns)
+    tie.close (tie.spec
+    (λ c κs. search needs)
+    (λ c κs. search needs)
+    (λ c κs. search needs)
+    returns)

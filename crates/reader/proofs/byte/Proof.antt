@@ -4,12 +4,11 @@ use borrow.Author.Needs.{needs}
 use Rattle.reader.proofs.byte.Statement.{statement}
 use Rattle.reader.proofs.byte.Tie as tie
 
-byte-at-requires : tie.Need-byte-at-requires
-byte-at-requires c κs = search needs
-
 returns : tie.Need-returns
 unfolding byteAt
 returns c = ap (λ t. t .byte) (c .byte-at .ensures)
 
 pub byte-spec : {M : Type 1} → statement M
-byte-spec = tie.close (tie.spec byte-at-requires returns)
+byte-spec = tie.close (tie.spec
+    (λ c κs. search needs)
+    returns)

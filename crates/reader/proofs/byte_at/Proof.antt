@@ -3,20 +3,8 @@ use Rattle.reader.proofs.Lists.{in-first, in-second, behind}
 use Rattle.reader.proofs.byte_at.Statement.{statement}
 use Rattle.reader.proofs.byte_at.Tie as tie
 
-shared-slice-read-t8 : tie.Need-shared-slice-read-t8
-shared-slice-read-t8 c = search needs
-
-add-t9 : tie.Need-add-t9
-add-t9 c = search needs
-
 returns : tie.Need-returns
 returns c = let a = c .before .before .args in in-first (a .held .now) (a .piece .now) (a .at) (c .before .if1 .taken)
-
-shared-slice-read-t12 : tie.Need-shared-slice-read-t12
-shared-slice-read-t12 c = search needs
-
-add-t13 : tie.Need-add-t13
-add-t13 c = search needs
 
 returns-2 : tie.Need-returns-2
 returns-2 c = let a = c .before .before .before .args in in-second (a .held .now) (a .piece .now) (a .at) (c .before .before .if1 .left) (c .before .if2 .taken)
@@ -28,10 +16,10 @@ pub byte-at-spec : {M : Type 1} → statement M
 byte-at-spec =
     tie.close
     (tie.spec
-    shared-slice-read-t8
-    add-t9
+    (λ c. search needs)
+    (λ c. search needs)
     returns
-    shared-slice-read-t12
-    add-t13
+    (λ c. search needs)
+    (λ c. search needs)
     returns-2
     returns-3)

@@ -5,12 +5,6 @@ use Rattle.reader.specs.Reader.{bytesAt}
 use Rattle.reader.proofs.bytes_at.Statement.{statement}
 use Rattle.reader.proofs.bytes_at.Tie as tie
 
-add-end : tie.Need-add-end
-add-end c = search needs
-
-add-if1 : tie.Need-add-if1
-add-if1 c = search needs
-
 returns : tie.Need-returns
 unfolding bytesAt
 returns c = simp (length-append, le-leb _ _ (c .if1 .taken))
@@ -20,4 +14,7 @@ unfolding bytesAt
 returns-2 c = simp (length-append, lt-leb _ _ (c .if1 .left))
 
 pub bytes-at-spec : {M : Type 1} → statement M
-bytes-at-spec = tie.close (tie.spec add-end add-if1 returns returns-2)
+bytes-at-spec = tie.close (tie.spec
+    (λ c. search needs)
+    (λ c. search needs)
+    returns returns-2)

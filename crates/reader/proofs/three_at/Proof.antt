@@ -16,16 +16,13 @@ made-said : (s : List ℕ) (n : ℕ) (p : Two) (c : Took) → p ≡ twoAt s n �
 unfolding twoAt threeAt
 made-said s n p c e f = let g = f ∙ ap (λ (x : Two). byteAt s (x .at)) e in λ i. made (e i) (g i)
 
-two-at-requires : tie.Need-two-at-requires
-two-at-requires c κs = search needs
-
-byte-at-requires : tie.Need-byte-at-requires
-byte-at-requires c κs = search needs
-
 returns : tie.Need-returns
 returns c =
     let a = c .before .before .before .before .args in
     made-said (a .held .now ++ a .piece .now) (a .at) (c .before .two-at .result) (c .byte-at .result) (c .before .two-at .ensures) (c .byte-at .ensures)
 
 pub three-at-spec : {M : Type 1} → statement M
-three-at-spec = tie.close (tie.spec two-at-requires byte-at-requires returns)
+three-at-spec = tie.close (tie.spec
+    (λ c κs. search needs)
+    (λ c κs. search needs)
+    returns)

@@ -8,33 +8,6 @@ use borrow.Author.Needs.{needs}
 use Rattle.reading.proofs.read_at.Statement.{statement}
 use Rattle.reading.proofs.read_at.Tie as tie
 
-least-requires : tie.Need-least-requires
-least-requires c κs = search needs
-
-sub-b : tie.Need-sub-b
-sub-b c = search needs
-
-sub-read-reply : tie.Need-sub-read-reply
-sub-read-reply c = search needs
-
-part-read-reply-start : tie.Need-part-read-reply-start
-part-read-reply-start c = search needs
-
-part-read-reply-end : tie.Need-part-read-reply-end
-part-read-reply-end c = search needs
-
-sub-read-reply-2 : tie.Need-sub-read-reply-2
-sub-read-reply-2 c = search needs
-
-part-read-reply-start-2 : tie.Need-part-read-reply-start-2
-part-read-reply-start-2 c = search needs
-
-part-read-reply-end-2 : tie.Need-part-read-reply-end-2
-part-read-reply-end-2 c = search needs
-
-read-reply-requires : tie.Need-read-reply-requires
-read-reply-requires c κs = search needs
-
 returns : tie.Need-returns
 returns c =
     let a = c .before .before .before .before .before .before .args in
@@ -46,13 +19,13 @@ pub read-at-spec : {M : Type 1} → statement M
 read-at-spec =
     tie.close
     (tie.spec
-    least-requires
-    sub-b
-    sub-read-reply
-    part-read-reply-start
-    part-read-reply-end
-    sub-read-reply-2
-    part-read-reply-start-2
-    part-read-reply-end-2
-    read-reply-requires
+    (λ c κs. search needs)
+    (λ c. search needs)
+    (λ c. search needs)
+    (λ c. search needs)
+    (λ c. search needs)
+    (λ c. search needs)
+    (λ c. search needs)
+    (λ c. search needs)
+    (λ c κs. search needs)
     returns)

@@ -11,30 +11,6 @@ fifth : (c : tie.After-shared-slice-known2) → byte (c .before .before .args .h
 fifth c =
     any-byte (c .before .before .args .held .now) (c .before .before .args .piece .now) (λ i. let h = c .before .shared-slice-known .given i in omega arith) (λ i. let h = c .shared-slice-known2 .given i in omega arith) 4
 
-enum-known-reply : tie.Need-enum-known-reply
-enum-known-reply c = search needs
-
-read-negotiation-res-requires : tie.Need-read-negotiation-res-requires
-read-negotiation-res-requires c κs = search needs
-
-enum-told : tie.Need-enum-told
-enum-told c = search needs
-
-read-authentication-res-requires : tie.Need-read-authentication-res-requires
-read-authentication-res-requires c κs = search needs
-
-enum-told-2 : tie.Need-enum-told-2
-enum-told-2 c = search needs
-
-read-proxy-res-requires : tie.Need-read-proxy-res-requires
-read-proxy-res-requires c κs = search needs
-
-enum-told-3 : tie.Need-enum-told-3
-enum-told-3 c = search needs
-
-read-response-requires : tie.Need-read-response-requires
-read-response-requires c κs = search needs
-
 returns : tie.Need-returns
 returns c =
     (rw (c .before .before .reply .given .1) (c .read-negotiation-res .ensures), fifth (c .before .before .before .before))
@@ -55,14 +31,14 @@ pub read-reply-spec : {M : Type 1} → statement M
 read-reply-spec =
     tie.close
     (tie.spec
-    enum-known-reply
-    read-negotiation-res-requires
-    enum-told
-    read-authentication-res-requires
-    enum-told-2
-    read-proxy-res-requires
-    enum-told-3
-    read-response-requires
+    (λ c. search needs)
+    (λ c κs. search needs)
+    (λ c. search needs)
+    (λ c κs. search needs)
+    (λ c. search needs)
+    (λ c κs. search needs)
+    (λ c. search needs)
+    (λ c κs. search needs)
     returns
     returns-2
     returns-3

@@ -7,41 +7,20 @@ use borrow.Author.Needs.{needs}
 use Rattle.receiving.proofs.receive_awaiting.Statement.{statement}
 use Rattle.receiving.proofs.receive_awaiting.Tie as tie
 
-unchanged-requires : tie.Need-unchanged-requires
-unchanged-requires c κs = search needs
-
 returns : tie.Need-returns
 returns c =
     let a = c .before .before .before .before .args in
     receives-unstarted (a .started) (a .held) (a .lengths) (a .hold .now) (a .piece .now) (a .room) (a .bound) (a .reply) (not-true _ (c .before .if1 .taken)) (c .unchanged .ensures)
-
-room-of-requires : tie.Need-room-of-requires
-room-of-requires c κs = search needs
-
-unchanged-requires-2 : tie.Need-unchanged-requires-2
-unchanged-requires-2 c κs = search needs
 
 returns-2 : tie.Need-returns-2
 returns-2 c =
     let a = c .before .before .before .before .before .before .args in
     receives-short (a .started) (a .held) (a .lengths) (a .hold .now) (a .piece .now) (a .room) (a .bound) (a .reply) (not-false _ (c .before .before .before .if1 .left)) (omega (arith, c .before .before .room-of .ensures, c .before .if2 .taken)) (c .unchanged2 .ensures)
 
-unchanged-requires-3 : tie.Need-unchanged-requires-3
-unchanged-requires-3 c κs = search needs
-
 returns-3 : tie.Need-returns-3
 returns-3 c =
     let a = c .before .before .before .before .before .before .before .args in
     receives-none (a .started) (a .held) (a .lengths) (a .hold .now) (a .piece .now) (a .room) (a .bound) (a .reply) (not-false _ (c .before .before .before .before .if1 .left)) (omega (arith, c .before .before .before .room-of .ensures, c .before .before .if2 .left)) (c .before .if3 .taken) (c .unchanged3 .ensures)
-
-least-requires : tie.Need-least-requires
-least-requires c κs = search needs
-
-take-requires : tie.Need-take-requires
-take-requires c κs = search needs
-
-same-length : tie.Need-same-length
-same-length c = search needs
 
 returns-4 : tie.Need-returns-4
 returns-4 c =
@@ -57,14 +36,14 @@ pub receive-awaiting-spec : {M : Type 1} → statement M
 receive-awaiting-spec =
     tie.close
     (tie.spec
-    unchanged-requires
+    (λ c κs. search needs)
     returns
-    room-of-requires
-    unchanged-requires-2
+    (λ c κs. search needs)
+    (λ c κs. search needs)
     returns-2
-    unchanged-requires-3
+    (λ c κs. search needs)
     returns-3
-    least-requires
-    take-requires
-    same-length
+    (λ c κs. search needs)
+    (λ c κs. search needs)
+    (λ c. search needs)
     returns-4)

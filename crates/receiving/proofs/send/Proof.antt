@@ -12,25 +12,10 @@ bytes-long c = search needs
 returns : tie.Need-returns
 returns c = let a = c .before .before .args in nothing-sent (a .requests .bytes) (a .from) (a .out .now) (c .if1 .taken)
 
-add-end : tie.Need-add-end
-add-end c = search needs
-
-sub-copy : tie.Need-sub-copy
-sub-copy c = search needs
-
-part-copy-start : tie.Need-part-copy-start
-part-copy-start c = search needs
-
 part-copy-end : tie.Need-part-copy-end
 part-copy-end c =
     let start = c .before .before .before .before .before in
     omega (arith, bytes-long start, start .pre .0)
-
-copy-requires : tie.Need-copy-requires
-copy-requires c κs = search needs
-
-same-length : tie.Need-same-length
-same-length c = search needs
 
 returns-2 : tie.Need-returns-2
 returns-2 c = let a = c .before .before .before .before .before .before .before .before .before .args in sent-part (a .requests .bytes) (a .from) (a .n) (a .out .now) (c .before .before .copy .ensures .bytes)
@@ -40,10 +25,10 @@ send-spec =
     tie.close
     (tie.spec
     returns
-    add-end
-    sub-copy
-    part-copy-start
+    (λ c. search needs)
+    (λ c. search needs)
+    (λ c. search needs)
     part-copy-end
-    copy-requires
-    same-length
+    (λ c κs. search needs)
+    (λ c. search needs)
     returns-2)

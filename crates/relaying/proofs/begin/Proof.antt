@@ -7,18 +7,6 @@ use Prim.Native.Nat.{_-_}
 use Rattle.relaying.proofs.begin.Statement.{statement}
 use Rattle.relaying.proofs.begin.Tie as tie
 
-sub-index : tie.Need-sub-index
-sub-index c = search needs
-
-mul-hop : tie.Need-mul-hop
-mul-hop c = search needs
-
-array-copy-out-hop : tie.Need-array-copy-out-hop
-array-copy-out-hop c = search needs
-
-first-size-requires : tie.Need-first-size-requires
-first-size-requires c κs = search needs
-
 send-requires : tie.Need-send-requires
 send-requires c κs =
     let start = c .before .before .before .before .before .before .before .before in
@@ -26,9 +14,6 @@ send-requires c κs =
     let n = hopAt (start .args .t1) (start .args .spot .behind - 1) in
     let small = begins-small (n .lengths) (n .first) (c .before .first-size .ensures) in
     (whole, (omega arith, (omega arith, omega arith)))
-
-same-length : tie.Need-same-length
-same-length c = search needs
 
 returns : tie.Need-returns
 returns c =
@@ -40,10 +25,10 @@ pub begin-spec : {M : Type 1} → statement M
 begin-spec =
     tie.close
     (tie.spec
-    sub-index
-    mul-hop
-    array-copy-out-hop
-    first-size-requires
+    (λ c. search needs)
+    (λ c. search needs)
+    (λ c. search needs)
+    (λ c κs. search needs)
     send-requires
-    same-length
+    (λ c. search needs)
     returns)

@@ -5,18 +5,6 @@ use borrow.Author.Needs.{needs}
 use Rattle.relaying.proofs.step.Statement.{statement}
 use Rattle.relaying.proofs.step.Tie as tie
 
-hand-requires : tie.Need-hand-requires
-hand-requires c κs = search needs
-
-goes-on-requires : tie.Need-goes-on-requires
-goes-on-requires c κs = search needs
-
-same-length : tie.Need-same-length
-same-length c = search needs
-
-same-length-2 : tie.Need-same-length-2
-same-length-2 c = search needs
-
 returns : tie.Need-returns
 returns c =
     let start = c .before .before .before .before .before .before .before .before .before .before .before .before .before .before in
@@ -32,12 +20,6 @@ begin-requires c κs =
     let g = c .before .before .goes-on in
     begin-asks (a .hops) (a .spot) (a .bytes .now) (a .hold .now) (a .piece .now) (a .out .now) (start .pre) (h .result) (h .ensures .0) (h .ensures .1 .0) (h .ensures .1 .1) (sym (g .ensures) ∙ not-false (g .result) (c .before .if1 .left))
 
-same-length-3 : tie.Need-same-length-3
-same-length-3 c = search needs
-
-same-length-4 : tie.Need-same-length-4
-same-length-4 c = search needs
-
 returns-2 : tie.Need-returns-2
 returns-2 c =
     let start = c .before .before .before .before .before .before .before .before .before .before .before .before .before .before .before .before .before .before in
@@ -51,12 +33,12 @@ pub step-spec : {M : Type 1} → statement M
 step-spec =
     tie.close
     (tie.spec
-    hand-requires
-    goes-on-requires
-    same-length
-    same-length-2
+    (λ c κs. search needs)
+    (λ c κs. search needs)
+    (λ c. search needs)
+    (λ c. search needs)
     returns
     begin-requires
-    same-length-3
-    same-length-4
+    (λ c. search needs)
+    (λ c. search needs)
     returns-2)

@@ -6,21 +6,6 @@ use borrow.Author.Needs.{needs}
 use Rattle.replay.proofs.run_case.Statement.{statement}
 use Rattle.replay.proofs.run_case.Tie as tie
 
-sub-open : tie.Need-sub-open
-sub-open c = search needs
-
-part-open-start : tie.Need-part-open-start
-part-open-start c = search needs
-
-part-open-end : tie.Need-part-open-end
-part-open-end c = search needs
-
-open-requires : tie.Need-open-requires
-open-requires c κs = search needs
-
-past-requires : tie.Need-past-requires
-past-requires c κs = search needs
-
 take-rest-requires : tie.Need-take-rest-requires
 take-rest-requires c κs =
     let b = c .before .before .before .before .before .before .before .before .before .before .before .before .before in
@@ -35,15 +20,6 @@ close-requires c κs =
     let o = c .before .before .before .before .before .before .before .before .before .before .before .before .before .before .before .«open» in
     (keeps-as (t .ensures .1 .0) (t .kept .1 .1 .1 .1 .0), (t .ensures .1 .1, rooms-as (c .before .before .before .before .before .before .before .before .before .before .before .before .before .before .before .before .before .before .before .before .before .before .pre .1 .1 .1 .1 .1) (t .kept .1 .1 .1 .0 ∙ o .kept .1 .1 .1 .0) (t .kept .1 .1 .1 .1 .0)))
 
-same-length : tie.Need-same-length
-same-length c = search needs
-
-same-length-2 : tie.Need-same-length-2
-same-length-2 c = search needs
-
-same-length-3 : tie.Need-same-length-3
-same-length-3 c = search needs
-
 returns : tie.Need-returns
 returns c =
     let t = c .before .before .before .before .before .before .before .before .before .before .before .take-rest in
@@ -54,14 +30,14 @@ pub run-case-spec : {M : Type 1} → statement M
 run-case-spec =
     tie.close
     (tie.spec
-    sub-open
-    part-open-start
-    part-open-end
-    open-requires
-    past-requires
+    (λ c. search needs)
+    (λ c. search needs)
+    (λ c. search needs)
+    (λ c κs. search needs)
+    (λ c κs. search needs)
     take-rest-requires
     close-requires
-    same-length
-    same-length-2
-    same-length-3
+    (λ c. search needs)
+    (λ c. search needs)
+    (λ c. search needs)
     returns)

@@ -5,38 +5,8 @@ use borrow.Author.Needs.{needs}
 use Rattle.replay.proofs.take_behind.Statement.{statement}
 use Rattle.replay.proofs.take_behind.Tie as tie
 
-behind-size-requires : tie.Need-behind-size-requires
-behind-size-requires c κs = search needs
-
-want-requires : tie.Need-want-requires
-want-requires c κs = search needs
-
-sub-if1 : tie.Need-sub-if1
-sub-if1 c = search needs
-
-same-length : tie.Need-same-length
-same-length c = search needs
-
 returns : tie.Need-returns
 returns c = record { within = search needs; few = search needs; lent = not-whole }
-
-past-requires : tie.Need-past-requires
-past-requires c κs = search needs
-
-sub-text-lent : tie.Need-sub-text-lent
-sub-text-lent c = search needs
-
-part-text-lent-start : tie.Need-part-text-lent-start
-part-text-lent-start c = search needs
-
-part-text-lent-end : tie.Need-part-text-lent-end
-part-text-lent-end c = search needs
-
-text-lent-requires : tie.Need-text-lent-requires
-text-lent-requires c κs = search needs
-
-same-length-2 : tie.Need-same-length-2
-same-length-2 c = search needs
 
 returns-2 : tie.Need-returns-2
 returns-2 c =
@@ -53,15 +23,15 @@ pub take-behind-spec : {M : Type 1} → statement M
 take-behind-spec =
     tie.close
     (tie.spec
-    behind-size-requires
-    want-requires
-    sub-if1
-    same-length
+    (λ c κs. search needs)
+    (λ c κs. search needs)
+    (λ c. search needs)
+    (λ c. search needs)
     returns
-    past-requires
-    sub-text-lent
-    part-text-lent-start
-    part-text-lent-end
-    text-lent-requires
-    same-length-2
+    (λ c κs. search needs)
+    (λ c. search needs)
+    (λ c. search needs)
+    (λ c. search needs)
+    (λ c κs. search needs)
+    (λ c. search needs)
     returns-2)

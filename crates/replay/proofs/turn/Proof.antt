@@ -6,38 +6,8 @@ use borrow.Author.Needs.{needs}
 use Rattle.replay.proofs.turn.Statement.{statement}
 use Rattle.replay.proofs.turn.Tie as tie
 
-want-requires : tie.Need-want-requires
-want-requires c κs = search needs
-
-same-length : tie.Need-same-length
-same-length c = search needs
-
-returns : tie.Need-returns
-returns c = search needs
-
-new-line-requires : tie.Need-new-line-requires
-new-line-requires c κs = search needs
-
-sub-look : tie.Need-sub-look
-sub-look c = search needs
-
-part-look-start : tie.Need-part-look-start
-part-look-start c = search needs
-
-part-look-end : tie.Need-part-look-end
-part-look-end c = search needs
-
-look-requires : tie.Need-look-requires
-look-requires c κs = search needs
-
 refuse-requires : tie.Need-refuse-requires
 refuse-requires c κs = (c .before .before .before .before .before .before .before .new-line .ensures, notice-room (c .before .before .before .before .before .before .before .before .before .before .before .before .before .before .before .before .before .pre .1 .1 .long))
-
-same-length-2 : tie.Need-same-length-2
-same-length-2 c = search needs
-
-same-length-3 : tie.Need-same-length-3
-same-length-3 c = search needs
 
 returns-2 : tie.Need-returns-2
 returns-2 c = (rw (c .before .before .refuse .ensures .0) (c .before .before .before .before .before .before .before .before .before .before .before .before .before .before .before .want .ensures .0), c .before .before .refuse .ensures .1)
@@ -51,9 +21,6 @@ skip-case-requires c κs =
 
 same-length-4 : tie.Need-same-length-4
 same-length-4 c = c .before .before .before .before .skip-case .kept .1 .1 .1 .0 ∙ c .before .before .before .before .before .before .before .before .before .before .before .before .before .before .before .before .before .before .before .before .want .kept .1 .0
-
-same-length-5 : tie.Need-same-length-5
-same-length-5 c = search needs
 
 returns-3 : tie.Need-returns-3
 returns-3 c =
@@ -70,12 +37,6 @@ run-case-requires c κs =
 same-length-6 : tie.Need-same-length-6
 same-length-6 c = c .before .before .before .before .before .before .run-case .kept .1 .1 .1 .0 ∙ c .before .before .before .before .before .before .before .before .before .before .before .before .before .before .before .before .before .before .before .before .before .before .before .want .kept .1 .0
 
-same-length-7 : tie.Need-same-length-7
-same-length-7 c = search needs
-
-same-length-8 : tie.Need-same-length-8
-same-length-8 c = search needs
-
 returns-4 : tie.Need-returns-4
 returns-4 c =
     let s = c .before .before .before .before .before .before .run-case .ensures in
@@ -85,24 +46,24 @@ pub turn-spec : {M : Type 1} → statement M
 turn-spec =
     tie.close
     (tie.spec
-    want-requires
-    same-length
-    returns
-    new-line-requires
-    sub-look
-    part-look-start
-    part-look-end
-    look-requires
+    (λ c κs. search needs)
+    (λ c. search needs)
+    (λ c. search needs)
+    (λ c κs. search needs)
+    (λ c. search needs)
+    (λ c. search needs)
+    (λ c. search needs)
+    (λ c κs. search needs)
     refuse-requires
-    same-length-2
-    same-length-3
+    (λ c. search needs)
+    (λ c. search needs)
     returns-2
     skip-case-requires
     same-length-4
-    same-length-5
+    (λ c. search needs)
     returns-3
     run-case-requires
     same-length-6
-    same-length-7
-    same-length-8
+    (λ c. search needs)
+    (λ c. search needs)
     returns-4)

@@ -18,10 +18,8 @@ slice-aggregate-run-3 c = sym (length-replicate {A = ℕ} 327680 0)
 run-requires : tie.Need-run-requires
 run-requires c κs = rooms
 
-returns : tie.Need-returns
-returns c = search needs
-
 pub main-spec : {M : Type 1} → statement M
 main-spec =
     tie.close
-    (tie.spec slice-aggregate-run slice-aggregate-run-2 slice-aggregate-run-3 run-requires returns)
+    (tie.spec slice-aggregate-run slice-aggregate-run-2 slice-aggregate-run-3 run-requires
+    (λ c. search needs))

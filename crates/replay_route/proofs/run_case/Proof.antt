@@ -10,17 +10,8 @@ use borrow.Author.Needs.{needs}
 use Rattle.replay_route.proofs.run_case.Statement.{statement}
 use Rattle.replay_route.proofs.run_case.Tie as tie
 
-refuse-requires : tie.Need-refuse-requires
-refuse-requires c κs = search needs
-
-same-length : tie.Need-same-length
-same-length c = search needs
-
 returns : tie.Need-returns
 returns c = (rw (c .before .before .refuse .ensures .0) (c .before .before .before .before .before .before .before .before .before .before .pre .0 .within), c .before .before .refuse .ensures .1)
-
-unread-requires : tie.Need-unread-requires
-unread-requires c κs = search needs
 
 open-requires : tie.Need-open-requires
 open-requires c κs =
@@ -50,31 +41,19 @@ take-case-requires c κs =
     let g = p .0 .inside (not-false (b .args .seen .good) (c .before .before .before .before .before .before .before .before .before .before .before .before .if1 .left)) in
     (unread-past i (q .result) (h .tail + 4) (p .0 .within) (q .ensures .0) (q .ensures .1 .0) (inside-past h i (p .0 .within) g), (fresh-keeps (o .ensures .0) (p .1 .0), (none-yet _ _ (o .ensures .0 .none) (o .ensures .1), rooms-as (p .1 .1) (o .kept .1 .1 .1 .0) refl)))
 
-same-length-2 : tie.Need-same-length-2
-same-length-2 c = search needs
-
-same-length-3 : tie.Need-same-length-3
-same-length-3 c = search needs
-
-same-length-4 : tie.Need-same-length-4
-same-length-4 c = search needs
-
-returns-2 : tie.Need-returns-2
-returns-2 c = search needs
-
 pub run-case-spec : {M : Type 1} → statement M
 run-case-spec =
     tie.close
     (tie.spec
-    refuse-requires
-    same-length
+    (λ c κs. search needs)
+    (λ c. search needs)
     returns
-    unread-requires
+    (λ c κs. search needs)
     open-requires
     add-past
     past-requires
     take-case-requires
-    same-length-2
-    same-length-3
-    same-length-4
-    returns-2)
+    (λ c. search needs)
+    (λ c. search needs)
+    (λ c. search needs)
+    (λ c. search needs))

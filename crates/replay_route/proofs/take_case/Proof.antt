@@ -4,22 +4,10 @@ use borrow.Author.Needs.{needs}
 use Rattle.replay_route.proofs.take_case.Statement.{statement}
 use Rattle.replay_route.proofs.take_case.Tie as tie
 
-take-deliveries-requires : tie.Need-take-deliveries-requires
-take-deliveries-requires c κs = search needs
-
 close-requires : tie.Need-close-requires
 close-requires c κs =
     let t = c .before .before .before .before .before .before .before .before .take-deliveries in
     (keeps-as (t .ensures .1) (t .kept .1 .1 .1 .1 .1 .0), rooms-as (c .before .before .before .before .before .before .before .before .before .before .before .before .before .before .before .before .before .pre .1 .1 .1) (t .kept .1 .1 .1 .1 .0) (t .kept .1 .1 .1 .1 .1 .0))
-
-same-length : tie.Need-same-length
-same-length c = search needs
-
-same-length-2 : tie.Need-same-length-2
-same-length-2 c = search needs
-
-same-length-3 : tie.Need-same-length-3
-same-length-3 c = search needs
 
 returns : tie.Need-returns
 returns c =
@@ -31,9 +19,9 @@ pub take-case-spec : {M : Type 1} → statement M
 take-case-spec =
     tie.close
     (tie.spec
-    take-deliveries-requires
+    (λ c κs. search needs)
     close-requires
-    same-length
-    same-length-2
-    same-length-3
+    (λ c. search needs)
+    (λ c. search needs)
+    (λ c. search needs)
     returns)

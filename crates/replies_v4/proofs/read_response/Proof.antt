@@ -7,17 +7,11 @@ use Rattle.replies_v4.proofs.Response.{joined, near, response-came, res
 use Rattle.replies_v4.proofs.read_response.Statement.{statement}
 use Rattle.replies_v4.proofs.read_response.Tie as tie
 
-two-at-requires : tie.Need-two-at-requires
-two-at-requires c κs = search needs
-
 bytes-at-requires : tie.Need-bytes-at-requires
 bytes-at-requires c κs =
     let args = c .before .before .before .args in
     let n = near (args .held .now ++ args .piece .now) 0 (c .two-at .result) (c .two-at .ensures) in
     omega arith
-
-response-verdict-requires : tie.Need-response-verdict-requires
-response-verdict-requires c κs = search needs
 
 returns : tie.Need-returns
 unfolding decide
@@ -41,4 +35,8 @@ returns-2 c =
 pub read-response-spec : {M : Type 1} → statement M
 read-response-spec =
     tie.close
-    (tie.spec two-at-requires bytes-at-requires response-verdict-requires returns returns-2)
+    (tie.spec
+    (λ c κs. search needs)
+    bytes-at-requires
+    (λ c κs. search needs)
+    returns returns-2)

@@ -13,12 +13,6 @@ use Rattle.replies_v5.proofs.name_allowed.Tie as tie
 returns : tie.Need-returns
 returns c = rw (ne-eqb _ 0x03 (c .if1 .taken))
 
-wide-requires : tie.Need-wide-requires
-wide-requires c κs = search needs
-
-add-is-utf8-at : tie.Need-add-is-utf8-at
-add-is-utf8-at c = search needs
-
 is-utf8-at-requires : tie.Need-is-utf8-at-requires
 is-utf8-at-requires c κs =
     let pre = c .before .before .before .before .pre in
@@ -38,4 +32,7 @@ returns-2 c =
 
 pub name-allowed-spec : {M : Type 1} → statement M
 name-allowed-spec =
-    tie.close (tie.spec returns wide-requires add-is-utf8-at is-utf8-at-requires returns-2)
+    tie.close (tie.spec returns
+    (λ c κs. search needs)
+    (λ c. search needs)
+    is-utf8-at-requires returns-2)

@@ -4,9 +4,6 @@ use borrow.Author.Needs.{needs}
 use Rattle.replies_v5.proofs.proxy_verdict.Statement.{statement}
 use Rattle.replies_v5.proofs.proxy_verdict.Tie as tie
 
-name-allowed-requires : tie.Need-name-allowed-requires
-name-allowed-requires c κs = search needs
-
 returns : tie.Need-returns
 unfolding proxyVerdict
 returns c = simp (← c .before .before .name-allowed .ensures, c .before .if1 .taken, ne-eqb _ _ (c .if2 .taken))
@@ -20,4 +17,6 @@ unfolding proxyVerdict
 returns-3 c = simp (← c .before .name-allowed .ensures, c .if1 .left)
 
 pub proxy-verdict-spec : {M : Type 1} → statement M
-proxy-verdict-spec = tie.close (tie.spec name-allowed-requires returns returns-2 returns-3)
+proxy-verdict-spec = tie.close (tie.spec
+    (λ c κs. search needs)
+    returns returns-2 returns-3)

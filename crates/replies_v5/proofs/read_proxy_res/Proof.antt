@@ -8,12 +8,6 @@ use Rattle.reader.proofs.Returns.{undecided}
 use Rattle.replies_v5.proofs.read_proxy_res.Statement.{statement}
 use Rattle.replies_v5.proofs.read_proxy_res.Tie as tie
 
-three-at-requires : tie.Need-three-at-requires
-three-at-requires c κs = search needs
-
-head-allowed-requires : tie.Need-head-allowed-requires
-head-allowed-requires c κs = search needs
-
 type-at-requires : tie.Need-type-at-requires
 type-at-requires c κs =
     let args = c .before .before .before .before .before .before .args in
@@ -51,4 +45,7 @@ returns-3 c =
 pub read-proxy-res-spec : {M : Type 1} → statement M
 read-proxy-res-spec =
     tie.close
-    (tie.spec three-at-requires head-allowed-requires type-at-requires returns returns-2 returns-3)
+    (tie.spec
+    (λ c κs. search needs)
+    (λ c κs. search needs)
+    type-at-requires returns returns-2 returns-3)

@@ -11,12 +11,6 @@ use Rattle.reader.proofs.Returns.{undecided}
 use Rattle.replies_v5.proofs.type_at.Statement.{statement}
 use Rattle.replies_v5.proofs.type_at.Tie as tie
 
-two-at-requires : tie.Need-two-at-requires
-two-at-requires c κs = search needs
-
-type-allowed-requires : tie.Need-type-allowed-requires
-type-allowed-requires c κs = search needs
-
 -- the two bytes behind the first three
 came : (bs : List ℕ) (at : ℕ) (p : Two) → at ≡ 3 → p ≡ twoAt bs at → p .came ≡ true → CameTwo bs 3 2 p
 came bs at p three e t = two-came bs 3 p (e ∙ ap (twoAt bs) three) t
@@ -55,4 +49,7 @@ returns-3 c =
 pub type-at-spec : {M : Type 1} → statement M
 type-at-spec =
     tie.close
-    (tie.spec two-at-requires type-allowed-requires whole-at-requires returns returns-2 returns-3)
+    (tie.spec
+    (λ c κs. search needs)
+    (λ c κs. search needs)
+    whole-at-requires returns returns-2 returns-3)

@@ -14,12 +14,6 @@ use Rattle.reader.proofs.Returns.{undecided}
 use Rattle.replies_v5.proofs.whole_at.Statement.{statement}
 use Rattle.replies_v5.proofs.whole_at.Tie as tie
 
-rest-size-requires : tie.Need-rest-size-requires
-rest-size-requires c κs = search needs
-
-bytes-at-requires : tie.Need-bytes-at-requires
-bytes-at-requires c κs = search needs
-
 -- a reply with a name has room for it
 named : (atyp len rest : ℕ) → 5 + rest ≡ proxySize atyp len → atyp ≡ 0x03 → rest ≡ len + 2
 unfolding proxySize
@@ -71,4 +65,7 @@ returns-2 c =
 pub whole-at-spec : {M : Type 1} → statement M
 whole-at-spec =
     tie.close
-    (tie.spec rest-size-requires bytes-at-requires proxy-verdict-requires returns returns-2)
+    (tie.spec
+    (λ c κs. search needs)
+    (λ c κs. search needs)
+    proxy-verdict-requires returns returns-2)

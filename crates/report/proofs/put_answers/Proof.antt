@@ -6,15 +6,6 @@ use borrow.Author.Needs.{needs}
 use Rattle.report.proofs.put_answers.Statement.{statement}
 use Rattle.report.proofs.put_answers.Tie as tie
 
-put-numbers-requires : tie.Need-put-numbers-requires
-put-numbers-requires c κs = search needs
-
-slice-write-text : tie.Need-slice-write-text
-slice-write-text c = search needs
-
-add-put-end : tie.Need-add-put-end
-add-put-end c = search needs
-
 put-end-requires : tie.Need-put-end-requires
 put-end-requires c κs = simp length-set (omega arith)
 
@@ -31,9 +22,9 @@ pub put-answers-spec : {M : Type 1} → statement M
 put-answers-spec =
     tie.close
     (tie.spec
-    put-numbers-requires
-    slice-write-text
-    add-put-end
+    (λ c κs. search needs)
+    (λ c. search needs)
+    (λ c. search needs)
     put-end-requires
     same-length
     returns)

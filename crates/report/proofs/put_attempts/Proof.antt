@@ -9,12 +9,6 @@ use Rattle.report.proofs.put_attempts.Tie as tie
 returns : tie.Need-returns
 returns c = (search needs, rw (not-true (c .before .before .args .asks) (c .if1 .taken)) (nothing _ _))
 
-slice-write-text : tie.Need-slice-write-text
-slice-write-text c = search needs
-
-add-put-decimal : tie.Need-add-put-decimal
-add-put-decimal c = search needs
-
 put-decimal-requires : tie.Need-put-decimal-requires
 put-decimal-requires c κs =
     let f = few 10 19 (c .before .before .before .args .n) (omega arith) (omega arith) in
@@ -37,4 +31,7 @@ returns-2 c =
 pub put-attempts-spec : {M : Type 1} → statement M
 put-attempts-spec =
     tie.close
-    (tie.spec returns slice-write-text add-put-decimal put-decimal-requires same-length returns-2)
+    (tie.spec returns
+    (λ c. search needs)
+    (λ c. search needs)
+    put-decimal-requires same-length returns-2)

@@ -9,12 +9,6 @@ use Rattle.report.proofs.put_bound.Tie as tie
 returns : tie.Need-returns
 returns c = (search needs, rw (not-true (c .before .before .before .args .asks) (c .if1 .taken)) (nothing _ _))
 
-slice-write-text : tie.Need-slice-write-text
-slice-write-text c = search needs
-
-add-put-number : tie.Need-add-put-number
-add-put-number c = search needs
-
 put-number-requires : tie.Need-put-number-requires
 put-number-requires c κs = simp length-set (omega arith)
 
@@ -41,8 +35,8 @@ put-bound-spec =
     tie.close
     (tie.spec
     returns
-    slice-write-text
-    add-put-number
+    (λ c. search needs)
+    (λ c. search needs)
     put-number-requires
     put-field-requires
     same-length

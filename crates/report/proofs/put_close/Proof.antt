@@ -6,18 +6,6 @@ use borrow.Author.Needs.{needs}
 use Rattle.report.proofs.put_close.Statement.{statement}
 use Rattle.report.proofs.put_close.Tie as tie
 
-put-bound-requires : tie.Need-put-bound-requires
-put-bound-requires c κs = search needs
-
-put-attempts-requires : tie.Need-put-attempts-requires
-put-attempts-requires c κs = search needs
-
-slice-write-text : tie.Need-slice-write-text
-slice-write-text c = search needs
-
-add-result : tie.Need-add-result
-add-result c = search needs
-
 same-length : tie.Need-same-length
 same-length c = simp length-set (omega arith)
 
@@ -29,9 +17,9 @@ pub put-close-spec : {M : Type 1} → statement M
 put-close-spec =
     tie.close
     (tie.spec
-    put-bound-requires
-    put-attempts-requires
-    slice-write-text
-    add-result
+    (λ c κs. search needs)
+    (λ c κs. search needs)
+    (λ c. search needs)
+    (λ c. search needs)
     same-length
     returns)

@@ -5,9 +5,6 @@ use borrow.Author.Needs.{needs}
 use Rattle.report.proofs.put_wrong.Statement.{statement}
 use Rattle.report.proofs.put_wrong.Tie as tie
 
-put-bytes-requires : tie.Need-put-bytes-requires
-put-bytes-requires c κs = search needs
-
 put-decimal-requires : tie.Need-put-decimal-requires
 put-decimal-requires c κs = omega (arith, few 10 19 (c .before .before .before .before .before .before .before .args .offset) (omega arith) (omega arith))
 
@@ -29,7 +26,7 @@ pub put-wrong-spec : {M : Type 1} → statement M
 put-wrong-spec =
     tie.close
     (tie.spec
-    put-bytes-requires
+    (λ c κs. search needs)
     put-decimal-requires
     slice-write-text
     add-result

@@ -13,9 +13,6 @@ slice-write-text c = omega (arith, few 10 19 (c .before .before .before .before 
 add-result : tie.Need-add-result
 add-result c = omega (arith, few 10 19 (c .before .before .before .before .before .args .n) (omega arith) (omega arith))
 
-same-length : tie.Need-same-length
-same-length c = search needs
-
 returns : tie.Need-returns
 returns c =
     let f = few 10 19 (c .before .before .before .before .before .args .n) (omega arith) (omega arith) in
@@ -23,4 +20,6 @@ returns c =
 
 pub put-number-spec : {M : Type 1} → statement M
 put-number-spec =
-    tie.close (tie.spec put-decimal-requires slice-write-text add-result same-length returns)
+    tie.close (tie.spec put-decimal-requires slice-write-text add-result
+    (λ c. search needs)
+    returns)

@@ -5,12 +5,6 @@ use borrow.Author.Needs.{needs}
 use Rattle.report_fields.proofs.put_sent.Statement.{statement}
 use Rattle.report_fields.proofs.put_sent.Tie as tie
 
-slice-write-text : tie.Need-slice-write-text
-slice-write-text c = search needs
-
-add-put-field : tie.Need-add-put-field
-add-put-field c = search needs
-
 put-field-requires : tie.Need-put-field-requires
 put-field-requires c κs = simp length-set (omega arith)
 
@@ -18,9 +12,6 @@ slice-write-text-2 : tie.Need-slice-write-text-2
 slice-write-text-2 c =
     let k = then (one (c .before .before .before .before .before .before .args .text .now) (c .before .before .before .before .before .before .args .at) _ (omega arith)) (c .before .before .put-field .ensures .1) in
     omega (arith, k .same)
-
-add-result : tie.Need-add-result
-add-result c = search needs
 
 same-length : tie.Need-same-length
 same-length c =
@@ -37,10 +28,10 @@ pub put-sent-spec : {M : Type 1} → statement M
 put-sent-spec =
     tie.close
     (tie.spec
-    slice-write-text
-    add-put-field
+    (λ c. search needs)
+    (λ c. search needs)
     put-field-requires
     slice-write-text-2
-    add-result
+    (λ c. search needs)
     same-length
     returns)

@@ -5,21 +5,6 @@ use borrow.Author.Needs.{needs}
 use Rattle.report_fields.proofs.put_state.Statement.{statement}
 use Rattle.report_fields.proofs.put_state.Tie as tie
 
-put-outcome-requires : tie.Need-put-outcome-requires
-put-outcome-requires c κs = search needs
-
-slice-write-text : tie.Need-slice-write-text
-slice-write-text c = search needs
-
-status-of-requires : tie.Need-status-of-requires
-status-of-requires c κs = search needs
-
-cast-put-number : tie.Need-cast-put-number
-cast-put-number c = search needs
-
-add-put-number : tie.Need-add-put-number
-add-put-number c = search needs
-
 put-number-requires : tie.Need-put-number-requires
 put-number-requires c κs = simp length-set (omega arith)
 
@@ -33,11 +18,11 @@ pub put-state-spec : {M : Type 1} → statement M
 put-state-spec =
     tie.close
     (tie.spec
-    put-outcome-requires
-    slice-write-text
-    status-of-requires
-    cast-put-number
-    add-put-number
+    (λ c κs. search needs)
+    (λ c. search needs)
+    (λ c κs. search needs)
+    (λ c. search needs)
+    (λ c. search needs)
     put-number-requires
     same-length
     returns)

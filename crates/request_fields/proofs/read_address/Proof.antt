@@ -5,19 +5,10 @@ use borrow.Author.Needs.{needs}
 use Rattle.request_fields.proofs.read_address.Statement.{statement}
 use Rattle.request_fields.proofs.read_address.Tie as tie
 
-add-total : tie.Need-add-total
-add-total c = search needs
-
-sized-requires : tie.Need-sized-requires
-sized-requires c κs = search needs
-
 returns : tie.Need-returns
 returns c =
     let a = c .before .before .before .before .args in
     rw (eq-eqb (a .kind) 0x01 (c .before .if1 .taken)) (counted (a .held .now) (a .piece .now) 6 refl (c .sized .ensures))
-
-sized-requires-2 : tie.Need-sized-requires-2
-sized-requires-2 c κs = search needs
 
 returns-2 : tie.Need-returns-2
 returns-2 c =
@@ -29,26 +20,11 @@ returns-3 c =
     let a = c .before .before .before .before .before .args in
     rw (ne-eqb (a .kind) 0x01 (c .before .before .if1 .left), ne-eqb (a .kind) 0x04 (c .before .if2 .left)) (late (a .held .now) (a .piece .now) 1 _ (c .if3 .taken))
 
-byte-requires : tie.Need-byte-requires
-byte-requires c κs = search needs
-
-wide-requires : tie.Need-wide-requires
-wide-requires c κs = search needs
-
-malformed-requires : tie.Need-malformed-requires
-malformed-requires c κs = search needs
-
 returns-4 : tie.Need-returns-4
 returns-4 c =
     let a = c .before .before .before .before .before .before .before .before .before .args in
     rw (ne-eqb (a .kind) 0x01 (c .before .before .before .before .before .before .if1 .left), ne-eqb (a .kind) 0x04 (c .before .before .before .before .before .if2 .left))
     (none (a .held .now) (a .piece .now) (c .before .before .before .before .if3 .left) (c .before .before .wide .ensures ∙ c .before .before .before .byte .ensures) _ (c .before .if4 .taken) (c .malformed .ensures))
-
-add-sized : tie.Need-add-sized
-add-sized c = search needs
-
-sized-requires-3 : tie.Need-sized-requires-3
-sized-requires-3 c κs = search needs
 
 returns-5 : tie.Need-returns-5
 returns-5 c =
@@ -60,16 +36,16 @@ pub read-address-spec : {M : Type 1} → statement M
 read-address-spec =
     tie.close
     (tie.spec
-    add-total
-    sized-requires
+    (λ c. search needs)
+    (λ c κs. search needs)
     returns
-    sized-requires-2
+    (λ c κs. search needs)
     returns-2
     returns-3
-    byte-requires
-    wide-requires
-    malformed-requires
+    (λ c κs. search needs)
+    (λ c κs. search needs)
+    (λ c κs. search needs)
     returns-4
-    add-sized
-    sized-requires-3
+    (λ c. search needs)
+    (λ c κs. search needs)
     returns-5)

@@ -6,20 +6,11 @@ use borrow.Author.Needs.{needs}
 use Rattle.request_fields.proofs.read_first.Statement.{statement}
 use Rattle.request_fields.proofs.read_first.Tie as tie
 
-add-if1 : tie.Need-add-if1
-add-if1 c = search needs
-
 returns : tie.Need-returns
 unfolding reads
 returns c =
     let a = c .before .before .before .args in
     late (a .held .now) (a .piece .now) 1 _ (c .if1 .taken)
-
-byte-requires : tie.Need-byte-requires
-byte-requires c κs = search needs
-
-good-requires : tie.Need-good-requires
-good-requires c κs = search needs
 
 returns-2 : tie.Need-returns-2
 unfolding reads
@@ -29,9 +20,6 @@ returns-2 c =
     let good = c .good2 .ensures in
     came (a .held .now) (a .piece .now) 1 (c .before .before .before .if1 .left)
     (⊎-elim (λ w. passed 1 (is-first 0x05 0x04 e (w .taken)) good) (λ w. passed 1 (is-second 0x05 0x04 e (w .0 .left) (eqb-true _ 0x04 (w .1 .taken))) good) (c .before .if2 .came))
-
-malformed-requires : tie.Need-malformed-requires
-malformed-requires c κs = search needs
 
 returns-3 : tie.Need-returns-3
 unfolding reads
@@ -43,4 +31,11 @@ returns-3 c =
 pub read-first-spec : {M : Type 1} → statement M
 read-first-spec =
     tie.close
-    (tie.spec add-if1 returns byte-requires good-requires returns-2 malformed-requires returns-3)
+    (tie.spec
+    (λ c. search needs)
+    returns
+    (λ c κs. search needs)
+    (λ c κs. search needs)
+    returns-2
+    (λ c κs. search needs)
+    returns-3)

@@ -5,20 +5,11 @@ use borrow.Author.Needs.{needs}
 use Rattle.request_fields.proofs.read_head.Statement.{statement}
 use Rattle.request_fields.proofs.read_head.Tie as tie
 
-add-total : tie.Need-add-total
-add-total c = search needs
-
 returns : tie.Need-returns
 unfolding reads
 returns c =
     let a = c .before .before .before .args in
     late (a .held .now) (a .piece .now) 1 _ (c .if1 .taken)
-
-byte-requires : tie.Need-byte-requires
-byte-requires c κs = search needs
-
-malformed-requires : tie.Need-malformed-requires
-malformed-requires c κs = search needs
 
 returns-2 : tie.Need-returns-2
 unfolding reads
@@ -32,21 +23,12 @@ returns-3 c =
     let a = c .before .before .before .before .before .before .args in
     begins (a .held .now) (a .piece .now) (c .before .before .before .if1 .left) (c .before .before .byte .ensures) 0x05 (c .before .if2 .left) (late (a .held .now) (a .piece .now) 3 _ (c .if3 .taken))
 
-byte-requires-2 : tie.Need-byte-requires-2
-byte-requires-2 c κs = search needs
-
-malformed-requires-2 : tie.Need-malformed-requires-2
-malformed-requires-2 c κs = search needs
-
 returns-4 : tie.Need-returns-4
 unfolding reads
 returns-4 c =
     let a = c .before .before .before .before .before .before .before .before .before .args in
     begins (a .held .now) (a .piece .now) (c .before .before .before .before .before .before .if1 .left) (c .before .before .before .before .before .byte .ensures) 0x05 (c .before .before .before .before .if2 .left)
     (came (a .held .now) (a .piece .now) 3 (c .before .before .before .if3 .left) (refused 3 _ (is-not 0x00 (c .before .before .byte2 .ensures) (c .before .if4 .taken)) (c .malformed2 .ensures)))
-
-sized-requires : tie.Need-sized-requires
-sized-requires c κs = search needs
 
 returns-5 : tie.Need-returns-5
 unfolding reads
@@ -59,14 +41,14 @@ pub read-head-spec : {M : Type 1} → statement M
 read-head-spec =
     tie.close
     (tie.spec
-    add-total
+    (λ c. search needs)
     returns
-    byte-requires
-    malformed-requires
+    (λ c κs. search needs)
+    (λ c κs. search needs)
     returns-2
     returns-3
-    byte-requires-2
-    malformed-requires-2
+    (λ c κs. search needs)
+    (λ c κs. search needs)
     returns-4
-    sized-requires
+    (λ c κs. search needs)
     returns-5)

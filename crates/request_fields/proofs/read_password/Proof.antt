@@ -5,26 +5,11 @@ use borrow.Author.Needs.{needs}
 use Rattle.request_fields.proofs.read_password.Statement.{statement}
 use Rattle.request_fields.proofs.read_password.Tie as tie
 
-add-total : tie.Need-add-total
-add-total c = search needs
-
 returns : tie.Need-returns
 unfolding reads
 returns c =
     let a = c .before .before .before .args in
     late (a .held .now) (a .piece .now) 1 _ (c .if1 .taken)
-
-byte-requires : tie.Need-byte-requires
-byte-requires c κs = search needs
-
-wide-requires : tie.Need-wide-requires
-wide-requires c κs = search needs
-
-add-sized : tie.Need-add-sized
-add-sized c = search needs
-
-sized-requires : tie.Need-sized-requires
-sized-requires c κs = search needs
 
 returns-2 : tie.Need-returns-2
 unfolding reads
@@ -35,4 +20,11 @@ returns-2 c =
 pub read-password-spec : {M : Type 1} → statement M
 read-password-spec =
     tie.close
-    (tie.spec add-total returns byte-requires wide-requires add-sized sized-requires returns-2)
+    (tie.spec
+    (λ c. search needs)
+    returns
+    (λ c κs. search needs)
+    (λ c κs. search needs)
+    (λ c. search needs)
+    (λ c κs. search needs)
+    returns-2)

@@ -6,47 +6,20 @@ use borrow.Author.Needs.{needs}
 use Rattle.request_fields.proofs.read_text.Statement.{statement}
 use Rattle.request_fields.proofs.read_text.Tie as tie
 
-run-of-requires : tie.Need-run-of-requires
-run-of-requires c κs = search needs
-
-add-if1 : tie.Need-add-if1
-add-if1 c = search needs
-
 returns : tie.Need-returns
 returns c =
     let a = c .before .before .before .before .args in
     text-late (a .fewest) (a .most) (a .held .now ++ a .piece .now) _ (c .before .run-of .ensures) (rw (length-append (a .held .now) (a .piece .now)) (c .if1 .taken))
-
-byte-requires : tie.Need-byte-requires
-byte-requires c κs = search needs
-
-add-malformed : tie.Need-add-malformed
-add-malformed c = search needs
-
-malformed-requires : tie.Need-malformed-requires
-malformed-requires c κs = search needs
 
 returns-2 : tie.Need-returns-2
 returns-2 c =
     let a = c .before .before .before .before .before .before .before .args in
     c .malformed .ensures ∙ text-long (a .fewest) (a .most) (a .held .now ++ a .piece .now) _ (c .before .before .before .before .run-of .ensures) (rw (length-append (a .held .now) (a .piece .now)) (c .before .before .before .if1 .left)) (λ e. c .before .if2 .taken (c .before .before .byte .ensures ∙ e))
 
-add-malformed-2 : tie.Need-add-malformed-2
-add-malformed-2 c = search needs
-
-malformed-requires-2 : tie.Need-malformed-requires-2
-malformed-requires-2 c κs = search needs
-
 returns-3 : tie.Need-returns-3
 returns-3 c =
     let a = c .before .before .before .before .before .before .before .before .args in
     c .malformed2 .ensures ∙ text-few (a .fewest) (a .most) (a .held .now ++ a .piece .now) _ (c .before .before .before .before .before .run-of .ensures) (rw (length-append (a .held .now) (a .piece .now)) (c .before .before .before .before .if1 .left)) (sym (c .before .before .before .byte .ensures) ∙ c .before .before .if2 .left) (c .before .if3 .taken)
-
-add-good : tie.Need-add-good
-add-good c = search needs
-
-good-requires : tie.Need-good-requires
-good-requires c κs = search needs
 
 returns-4 : tie.Need-returns-4
 returns-4 c =
@@ -57,16 +30,16 @@ pub read-text-spec : {M : Type 1} → statement M
 read-text-spec =
     tie.close
     (tie.spec
-    run-of-requires
-    add-if1
+    (λ c κs. search needs)
+    (λ c. search needs)
     returns
-    byte-requires
-    add-malformed
-    malformed-requires
+    (λ c κs. search needs)
+    (λ c. search needs)
+    (λ c κs. search needs)
     returns-2
-    add-malformed-2
-    malformed-requires-2
+    (λ c. search needs)
+    (λ c κs. search needs)
     returns-3
-    add-good
-    good-requires
+    (λ c. search needs)
+    (λ c κs. search needs)
     returns-4)

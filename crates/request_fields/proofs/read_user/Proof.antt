@@ -5,20 +5,11 @@ use borrow.Author.Needs.{needs}
 use Rattle.request_fields.proofs.read_user.Statement.{statement}
 use Rattle.request_fields.proofs.read_user.Tie as tie
 
-add-total : tie.Need-add-total
-add-total c = search needs
-
 returns : tie.Need-returns
 unfolding reads
 returns c =
     let a = c .before .before .before .args in
     late (a .held .now) (a .piece .now) 1 _ (c .if1 .taken)
-
-byte-requires : tie.Need-byte-requires
-byte-requires c κs = search needs
-
-malformed-requires : tie.Need-malformed-requires
-malformed-requires c κs = search needs
 
 returns-2 : tie.Need-returns-2
 unfolding reads
@@ -32,18 +23,6 @@ returns-3 c =
     let a = c .before .before .before .before .before .before .args in
     begins (a .held .now) (a .piece .now) (c .before .before .before .if1 .left) (c .before .before .byte .ensures) 0x01 (c .before .if2 .left) (late (a .held .now) (a .piece .now) 2 _ (c .if3 .taken))
 
-byte-requires-2 : tie.Need-byte-requires-2
-byte-requires-2 c κs = search needs
-
-wide-requires : tie.Need-wide-requires
-wide-requires c κs = search needs
-
-add-sized : tie.Need-add-sized
-add-sized c = search needs
-
-sized-requires : tie.Need-sized-requires
-sized-requires c κs = search needs
-
 returns-4 : tie.Need-returns-4
 unfolding reads
 returns-4 c =
@@ -55,14 +34,14 @@ pub read-user-spec : {M : Type 1} → statement M
 read-user-spec =
     tie.close
     (tie.spec
-    add-total
+    (λ c. search needs)
     returns
-    byte-requires
-    malformed-requires
+    (λ c κs. search needs)
+    (λ c κs. search needs)
     returns-2
     returns-3
-    byte-requires-2
-    wide-requires
-    add-sized
-    sized-requires
+    (λ c κs. search needs)
+    (λ c κs. search needs)
+    (λ c. search needs)
+    (λ c κs. search needs)
     returns-4)

@@ -3,9 +3,6 @@ use borrow.Author.Needs.{needs}
 use Rattle.request_fields.proofs.sized.Statement.{statement}
 use Rattle.request_fields.proofs.sized.Tie as tie
 
-good-requires : tie.Need-good-requires
-good-requires c κs = search needs
-
 returns : tie.Need-returns
 returns c = rw (le-leb _ _ (c .before .if1 .taken)) (c .good2 .ensures)
 
@@ -13,4 +10,6 @@ returns-2 : tie.Need-returns-2
 returns-2 c = rw (lt-leb _ _ (c .if1 .left))
 
 pub sized-spec : {M : Type 1} → statement M
-sized-spec = tie.close (tie.spec good-requires returns returns-2)
+sized-spec = tie.close (tie.spec
+    (λ c κs. search needs)
+    returns returns-2)

@@ -8,18 +8,6 @@ use Rattle.requests_v4.proofs.announces_name.Tie as tie
 sixteen : (c : tie.Start) → length (c .args .t1) ≡ 16
 sixteen c = search needs
 
-array-read-if1 : tie.Need-array-read-if1
-array-read-if1 c = search needs
-
-array-read-if2 : tie.Need-array-read-if2
-array-read-if2 c = search needs
-
-array-read-if3 : tie.Need-array-read-if3
-array-read-if3 c = search needs
-
-array-read-result : tie.Need-array-read-result
-array-read-result c = search needs
-
 returns : tie.Need-returns
 returns c = by-fourth (c .before .before .before .args .t1) (sixteen (c .before .before .before)) (c .before .before .if1 .taken) (c .before .if2 .taken) (c .if3 .taken)
 
@@ -36,10 +24,10 @@ pub announces-name-spec : {M : Type 1} → statement M
 announces-name-spec =
     tie.close
     (tie.spec
-    array-read-if1
-    array-read-if2
-    array-read-if3
-    array-read-result
+    (λ c. search needs)
+    (λ c. search needs)
+    (λ c. search needs)
+    (λ c. search needs)
     returns
     returns-2
     returns-3

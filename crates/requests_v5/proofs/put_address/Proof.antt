@@ -4,40 +4,22 @@ use borrow.Author.Needs.{needs}
 use Rattle.requests_v5.proofs.put_address.Statement.{statement}
 use Rattle.requests_v5.proofs.put_address.Tie as tie
 
-enum-told : tie.Need-enum-told
-enum-told c = search needs
-
 put-typed-requires : tie.Need-put-typed-requires
 put-typed-requires c κs = let p = rw (c .before .enum-told .given .1) at (c .before .before .before .before .before .pre .1) in omega arith
-
-enum-told-2 : tie.Need-enum-told-2
-enum-told-2 c = search needs
 
 put-typed-requires-2 : tie.Need-put-typed-requires-2
 put-typed-requires-2 c κs = let p = rw (c .before .enum-told2 .given .1) at (c .before .before .before .before .before .pre .1) in omega arith
 
-enum-told-3 : tie.Need-enum-told-3
-enum-told-3 c = search needs
-
 put-named-requires : tie.Need-put-named-requires
 put-named-requires c κs = let p = rw (c .before .enum-told3 .given .1) at (c .before .before .before .before .before .pre .1) in (c .before .before .before .before .before .pre .0, omega arith)
-
-same-length : tie.Need-same-length
-same-length c = search needs
 
 returns : tie.Need-returns
 unfolding addressField
 returns c = rw (c .before .before .before .before .enum-told .given .1) (c .before .before .put-typed .ensures)
 
-same-length-2 : tie.Need-same-length-2
-same-length-2 c = search needs
-
 returns-2 : tie.Need-returns-2
 unfolding addressField
 returns-2 c = rw (c .before .before .before .before .enum-told2 .given .1) (c .before .before .put-typed2 .ensures)
-
-same-length-3 : tie.Need-same-length-3
-same-length-3 c = search needs
 
 returns-3 : tie.Need-returns-3
 returns-3 c = rw (c .before .before .before .before .enum-told3 .given .1) (c .before .before .put-named .ensures)
@@ -46,15 +28,15 @@ pub put-address-spec : {M : Type 1} → statement M
 put-address-spec =
     tie.close
     (tie.spec
-    enum-told
+    (λ c. search needs)
     put-typed-requires
-    enum-told-2
+    (λ c. search needs)
     put-typed-requires-2
-    enum-told-3
+    (λ c. search needs)
     put-named-requires
-    same-length
+    (λ c. search needs)
     returns
-    same-length-2
+    (λ c. search needs)
     returns-2
-    same-length-3
+    (λ c. search needs)
     returns-3)

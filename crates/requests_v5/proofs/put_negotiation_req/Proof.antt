@@ -4,21 +4,6 @@ use borrow.Author.Needs.{needs}
 use Rattle.requests_v5.proofs.put_negotiation_req.Statement.{statement}
 use Rattle.requests_v5.proofs.put_negotiation_req.Tie as tie
 
-slice-aggregate-copy : tie.Need-slice-aggregate-copy
-slice-aggregate-copy c = search needs
-
-copy-requires : tie.Need-copy-requires
-copy-requires c κs = search needs
-
-method-byte-requires : tie.Need-method-byte-requires
-method-byte-requires c κs = search needs
-
-put-byte-requires : tie.Need-put-byte-requires
-put-byte-requires c κs = search needs
-
-same-length : tie.Need-same-length
-same-length c = search needs
-
 returns : tie.Need-returns
 unfolding negotiationReq
 returns c =
@@ -28,9 +13,9 @@ pub put-negotiation-req-spec : {M : Type 1} → statement M
 put-negotiation-req-spec =
     tie.close
     (tie.spec
-    slice-aggregate-copy
-    copy-requires
-    method-byte-requires
-    put-byte-requires
-    same-length
+    (λ c. search needs)
+    (λ c κs. search needs)
+    (λ c κs. search needs)
+    (λ c κs. search needs)
+    (λ c. search needs)
     returns)

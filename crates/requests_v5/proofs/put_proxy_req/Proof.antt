@@ -22,22 +22,10 @@ port-room k cs v w l h =
     let f = field-size k cs in
     omega (arith, wrote-length v, wrote-length w)
 
-slice-aggregate-copy : tie.Need-slice-aggregate-copy
-slice-aggregate-copy c = search needs
-
-copy-requires : tie.Need-copy-requires
-copy-requires c κs = search needs
-
-put-address-requires : tie.Need-put-address-requires
-put-address-requires c κs = search needs
-
 put-port-requires : tie.Need-put-port-requires
 put-port-requires c κs =
     let start = c .before .before .before .before .before .before .before .before .before .before .before .before in
     port-room (start .args .kind) (start .args .bytes .now) (c .before .before .before .before .before .before .before .copy .ensures) (c .before .before .before .put-address .ensures) refl (start .pre .1)
-
-same-length : tie.Need-same-length
-same-length c = search needs
 
 returns : tie.Need-returns
 unfolding proxyReq
@@ -48,9 +36,9 @@ pub put-proxy-req-spec : {M : Type 1} → statement M
 put-proxy-req-spec =
     tie.close
     (tie.spec
-    slice-aggregate-copy
-    copy-requires
-    put-address-requires
+    (λ c. search needs)
+    (λ c κs. search needs)
+    (λ c κs. search needs)
     put-port-requires
-    same-length
+    (λ c. search needs)
     returns)

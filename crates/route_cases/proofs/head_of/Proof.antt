@@ -3,16 +3,13 @@ use borrow.Author.Needs.{needs}
 use Rattle.route_cases.proofs.head_of.Statement.{statement}
 use Rattle.route_cases.proofs.head_of.Tie as tie
 
-proxies-at-requires : tie.Need-proxies-at-requires
-proxies-at-requires c κs = search needs
-
-is-good-requires : tie.Need-is-good-requires
-is-good-requires c κs = search needs
-
 returns : tie.Need-returns
 returns c =
     let b = c .before .before .before .before .before in
     reads (b .args .s .now) (b .args .target) (c .before .before .proxies-at .result) (c .is-good .result) (b .pre .0) (b .pre .1 .0) (c .before .before .proxies-at .ensures) (c .is-good .ensures)
 
 pub head-of-spec : {M : Type 1} → statement M
-head-of-spec = tie.close (tie.spec proxies-at-requires is-good-requires returns)
+head-of-spec = tie.close (tie.spec
+    (λ c κs. search needs)
+    (λ c κs. search needs)
+    returns)

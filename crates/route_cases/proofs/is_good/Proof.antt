@@ -3,9 +3,6 @@ use borrow.Author.Needs.{needs}
 use Rattle.route_cases.proofs.is_good.Statement.{statement}
 use Rattle.route_cases.proofs.is_good.Tie as tie
 
-add-if1 : tie.Need-add-if1
-add-if1 c = search needs
-
 returns : tie.Need-returns
 returns c = rw (lt-ltb _ _ (c .if1 .taken))
 
@@ -13,4 +10,6 @@ returns-2 : tie.Need-returns-2
 returns-2 c = rw (le-ltb _ _ (c .if1 .left))
 
 pub is-good-spec : {M : Type 1} → statement M
-is-good-spec = tie.close (tie.spec add-if1 returns returns-2)
+is-good-spec = tie.close (tie.spec
+    (λ c. search needs)
+    returns returns-2)

@@ -4,43 +4,10 @@ use borrow.Author.Needs.{needs}
 use Rattle.route_cases.proofs.look.Statement.{statement}
 use Rattle.route_cases.proofs.look.Tie as tie
 
-sub-target-of : tie.Need-sub-target-of
-sub-target-of c = search needs
-
-part-target-of-start : tie.Need-part-target-of-start
-part-target-of-start c = search needs
-
-part-target-of-end : tie.Need-part-target-of-end
-part-target-of-end c = search needs
-
-target-of-requires : tie.Need-target-of-requires
-target-of-requires c κs = search needs
-
-pass-requires : tie.Need-pass-requires
-pass-requires c κs = search needs
-
-same-length : tie.Need-same-length
-same-length c = search needs
-
 returns : tie.Need-returns
 returns c =
     let t = c .before .before .before .before .before .before .target-of in
     looks-long _ (t .result) _ _ (t .ensures .0) (c .before .before .before .before .if1 .taken) (c .before .before .pass .ensures)
-
-sub-head-of : tie.Need-sub-head-of
-sub-head-of c = search needs
-
-part-head-of-start : tie.Need-part-head-of-start
-part-head-of-start c = search needs
-
-part-head-of-end : tie.Need-part-head-of-end
-part-head-of-end c = search needs
-
-head-of-requires : tie.Need-head-of-requires
-head-of-requires c κs = search needs
-
-same-length-2 : tie.Need-same-length-2
-same-length-2 c = search needs
 
 returns-2 : tie.Need-returns-2
 returns-2 c =
@@ -53,16 +20,16 @@ pub look-spec : {M : Type 1} → statement M
 look-spec =
     tie.close
     (tie.spec
-    sub-target-of
-    part-target-of-start
-    part-target-of-end
-    target-of-requires
-    pass-requires
-    same-length
+    (λ c. search needs)
+    (λ c. search needs)
+    (λ c. search needs)
+    (λ c κs. search needs)
+    (λ c κs. search needs)
+    (λ c. search needs)
     returns
-    sub-head-of
-    part-head-of-start
-    part-head-of-end
-    head-of-requires
-    same-length-2
+    (λ c. search needs)
+    (λ c. search needs)
+    (λ c. search needs)
+    (λ c κs. search needs)
+    (λ c. search needs)
     returns-2)

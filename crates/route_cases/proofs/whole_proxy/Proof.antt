@@ -5,20 +5,8 @@ use borrow.Author.Needs.{needs}
 use Rattle.route_cases.proofs.whole_proxy.Statement.{statement}
 use Rattle.route_cases.proofs.whole_proxy.Tie as tie
 
-proxy-at-requires : tie.Need-proxy-at-requires
-proxy-at-requires c κs = search needs
-
-end-of-requires : tie.Need-end-of-requires
-end-of-requires c κs = search needs
-
 returns : tie.Need-returns
 returns c = cut-off _ _ _ (c .before .before .proxy-at .ensures .0) (c .before .end-of .ensures) (c .if1 .taken)
-
-byte-at-requires : tie.Need-byte-at-requires
-byte-at-requires c κs = search needs
-
-is-version-requires : tie.Need-is-version-requires
-is-version-requires c κs = search needs
 
 returns-2 : tie.Need-returns-2
 returns-2 c =
@@ -34,10 +22,10 @@ pub whole-proxy-spec : {M : Type 1} → statement M
 whole-proxy-spec =
     tie.close
     (tie.spec
-    proxy-at-requires
-    end-of-requires
+    (λ c κs. search needs)
+    (λ c κs. search needs)
     returns
-    byte-at-requires
-    is-version-requires
+    (λ c κs. search needs)
+    (λ c κs. search needs)
     returns-2
     returns-3)

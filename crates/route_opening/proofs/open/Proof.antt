@@ -9,26 +9,11 @@ use Rattle.route_opening.proofs.open.Tie as tie
 eight : (c : tie.Start) → length (c .args .proxies) ≡ 8
 eight c = search needs
 
-size-answer-requires : tie.Need-size-answer-requires
-size-answer-requires c κs = search needs
-
-enum-told : tie.Need-enum-told
-enum-told c = search needs
-
 open-sized-requires : tie.Need-open-sized-requires
 open-sized-requires c κs =
     let a = c .before .before .before .before .before .before .before .args in
     let (some, (m, room)) = size-has (a .count) (length (a .out .now)) (sym (c .before .before .before .size-answer .ensures) ∙ c .before .enum-told .given .1) in
     (some, (m, omega arith))
-
-enum-known-answer : tie.Need-enum-known-answer
-enum-known-answer c = search needs
-
-refuse-requires : tie.Need-refuse-requires
-refuse-requires c κs = search needs
-
-same-length : tie.Need-same-length
-same-length c = search needs
 
 returns : tie.Need-returns
 returns c =
@@ -46,11 +31,11 @@ pub open-spec : {M : Type 1} → statement M
 open-spec =
     tie.close
     (tie.spec
-    size-answer-requires
-    enum-told
+    (λ c κs. search needs)
+    (λ c. search needs)
     open-sized-requires
-    enum-known-answer
-    refuse-requires
-    same-length
+    (λ c. search needs)
+    (λ c κs. search needs)
+    (λ c. search needs)
     returns
     returns-2)

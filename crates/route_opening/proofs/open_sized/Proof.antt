@@ -17,36 +17,6 @@ row c =
     let (some, (m, room)) = c .pre in
     length-map (take (c .args .count) (c .args .proxies)) (proxyOf (c .args .text .now)) ∙ length-take-le (c .args .count) (c .args .proxies) (omega (arith, eight c, m))
 
-no-hops-requires : tie.Need-no-hops-requires
-no-hops-requires c κs = search needs
-
-slice-aggregate-plan : tie.Need-slice-aggregate-plan
-slice-aggregate-plan c = search needs
-
-plan-requires : tie.Need-plan-requires
-plan-requires c κs = search needs
-
-enum-told : tie.Need-enum-told
-enum-told c = search needs
-
-slice-aggregate-begin-first : tie.Need-slice-aggregate-begin-first
-slice-aggregate-begin-first c = search needs
-
-begin-first-requires : tie.Need-begin-first-requires
-begin-first-requires c κs = search needs
-
-begun-requires : tie.Need-begun-requires
-begun-requires c κs = search needs
-
-enum-known-answer : tie.Need-enum-known-answer
-enum-known-answer c = search needs
-
-refuse-requires : tie.Need-refuse-requires
-refuse-requires c κs = search needs
-
-same-length : tie.Need-same-length
-same-length c = search needs
-
 returns : tie.Need-returns
 returns c =
     let start = c .before .before .before .before .before .before .before .before .before .before .before .before .before .before .before .before in
@@ -68,15 +38,15 @@ pub open-sized-spec : {M : Type 1} → statement M
 open-sized-spec =
     tie.close
     (tie.spec
-    no-hops-requires
-    slice-aggregate-plan
-    plan-requires
-    enum-told
-    slice-aggregate-begin-first
-    begin-first-requires
-    begun-requires
-    enum-known-answer
-    refuse-requires
-    same-length
+    (λ c κs. search needs)
+    (λ c. search needs)
+    (λ c κs. search needs)
+    (λ c. search needs)
+    (λ c. search needs)
+    (λ c κs. search needs)
+    (λ c κs. search needs)
+    (λ c. search needs)
+    (λ c κs. search needs)
+    (λ c. search needs)
     returns
     returns-2)

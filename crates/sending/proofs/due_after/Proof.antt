@@ -6,24 +6,6 @@ use borrow.Author.Needs.{needs}
 use Rattle.sending.proofs.due_after.Statement.{statement}
 use Rattle.sending.proofs.due_after.Tie as tie
 
-enum-known-reply : tie.Need-enum-known-reply
-enum-known-reply c = search needs
-
-due-after-method-requires : tie.Need-due-after-method-requires
-due-after-method-requires c κs = search needs
-
-enum-told : tie.Need-enum-told
-enum-told c = search needs
-
-proxy-due-requires : tie.Need-proxy-due-requires
-proxy-due-requires c κs = search needs
-
-enum-told-2 : tie.Need-enum-told-2
-enum-told-2 c = search needs
-
-enum-told-3 : tie.Need-enum-told-3
-enum-told-3 c = search needs
-
 returns : tie.Need-returns
 returns c = rw (c .before .before .reply .given .1) (c .due-after-method .ensures)
 
@@ -40,12 +22,12 @@ pub due-after-spec : {M : Type 1} → statement M
 due-after-spec =
     tie.close
     (tie.spec
-    enum-known-reply
-    due-after-method-requires
-    enum-told
-    proxy-due-requires
-    enum-told-2
-    enum-told-3
+    (λ c. search needs)
+    (λ c κs. search needs)
+    (λ c. search needs)
+    (λ c κs. search needs)
+    (λ c. search needs)
+    (λ c. search needs)
     returns
     returns-2
     returns-3

@@ -6,21 +6,6 @@ use borrow.Author.Needs.{needs}
 use Rattle.sending.proofs.due_after_method.Statement.{statement}
 use Rattle.sending.proofs.due_after_method.Tie as tie
 
-enum-told : tie.Need-enum-told
-enum-told c = search needs
-
-proxy-due-requires : tie.Need-proxy-due-requires
-proxy-due-requires c κs = search needs
-
-enum-told-2 : tie.Need-enum-told-2
-enum-told-2 c = search needs
-
-authentication-due-requires : tie.Need-authentication-due-requires
-authentication-due-requires c κs = search needs
-
-enum-told-3 : tie.Need-enum-told-3
-enum-told-3 c = search needs
-
 returns : tie.Need-returns
 returns c = rw (c .before .enum-told .given .1) (ap (due (Awaiting ProxyRes)) (c .proxy-due .ensures))
 
@@ -34,11 +19,11 @@ pub due-after-method-spec : {M : Type 1} → statement M
 due-after-method-spec =
     tie.close
     (tie.spec
-    enum-told
-    proxy-due-requires
-    enum-told-2
-    authentication-due-requires
-    enum-told-3
+    (λ c. search needs)
+    (λ c κs. search needs)
+    (λ c. search needs)
+    (λ c κs. search needs)
+    (λ c. search needs)
     returns
     returns-2
     returns-3)

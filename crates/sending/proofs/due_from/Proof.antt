@@ -4,19 +4,10 @@ use borrow.Author.Needs.{needs}
 use Rattle.sending.proofs.due_from.Statement.{statement}
 use Rattle.sending.proofs.due_from.Tie as tie
 
-least-requires : tie.Need-least-requires
-least-requires c κs = search needs
-
-authentication-first-requires : tie.Need-authentication-first-requires
-authentication-first-requires c κs = search needs
-
 returns : tie.Need-returns
 returns c =
     let t = c .if1 .taken in
     from-first (c .before .before .before .args .lengths) (c .before .before .before .args .reply) (c .before .authentication-first .ensures) t (c .before .before .least .ensures)
-
-authentication-due-requires : tie.Need-authentication-due-requires
-authentication-due-requires c κs = search needs
 
 add-result : tie.Need-add-result
 add-result c =
@@ -32,9 +23,9 @@ pub due-from-spec : {M : Type 1} → statement M
 due-from-spec =
     tie.close
     (tie.spec
-    least-requires
-    authentication-first-requires
+    (λ c κs. search needs)
+    (λ c κs. search needs)
     returns
-    authentication-due-requires
+    (λ c κs. search needs)
     add-result
     returns-2)

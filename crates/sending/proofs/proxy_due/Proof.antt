@@ -4,14 +4,11 @@ use borrow.Author.Needs.{needs}
 use Rattle.sending.proofs.proxy_due.Statement.{statement}
 use Rattle.sending.proofs.proxy_due.Tie as tie
 
-least-requires : tie.Need-least-requires
-least-requires c κs = search needs
-
-unless-gone-requires : tie.Need-unless-gone-requires
-unless-gone-requires c κs = search needs
-
 returns : tie.Need-returns
 returns c = c .unless-gone .ensures ∙ ap (unlessGone (c .before .before .args .lengths .optimistic)) (c .before .least .ensures)
 
 pub proxy-due-spec : {M : Type 1} → statement M
-proxy-due-spec = tie.close (tie.spec least-requires unless-gone-requires returns)
+proxy-due-spec = tie.close (tie.spec
+    (λ c κs. search needs)
+    (λ c κs. search needs)
+    returns)

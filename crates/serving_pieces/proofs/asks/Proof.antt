@@ -7,22 +7,15 @@ use borrow.Author.Needs.{needs}
 use Rattle.serving_pieces.proofs.asks.Statement.{statement}
 use Rattle.serving_pieces.proofs.asks.Tie as tie
 
-keep-requires : tie.Need-keep-requires
-keep-requires c κs = search needs
-
-least-requires : tie.Need-least-requires
-least-requires c κs = search needs
-
-sub-t12 : tie.Need-sub-t12
-sub-t12 c = search needs
-
-same-length : tie.Need-same-length
-same-length c = search needs
-
 returns : tie.Need-returns
 returns c =
     let a = c .before .before .before .before .before .before .before .before .before .args in
     asks-as (asksAt (a .turn .last) (lastIn (a .turn) (take (a .n) (a .hold .now) ++ a .piece .now))) (a .turn .stage) (a .turn .sent) (a .turn .place) (a .n) (c .before .before .before .before .before .keep .ensures) (c .before .least .ensures)
 
 pub asks-spec : {M : Type 1} → statement M
-asks-spec = tie.close (tie.spec keep-requires least-requires sub-t12 same-length returns)
+asks-spec = tie.close (tie.spec
+    (λ c κs. search needs)
+    (λ c κs. search needs)
+    (λ c. search needs)
+    (λ c. search needs)
+    returns)

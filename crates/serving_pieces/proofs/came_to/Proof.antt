@@ -8,9 +8,6 @@ use borrow.Author.Needs.{needs}
 use Rattle.serving_pieces.proofs.came_to.Statement.{statement}
 use Rattle.serving_pieces.proofs.came_to.Tie as tie
 
-enum-known-stage : tie.Need-enum-known-stage
-enum-known-stage c = search needs
-
 waits-requires : tie.Need-waits-requires
 waits-requires c κs =
     let start = c .before .before .before .before .before .before in
@@ -18,26 +15,8 @@ waits-requires c κs =
     let p = start .pre in
     (p .0, p .1, p .3, unread-few (a .n) (a .hold .now) (a .piece .now) (p .0) (p .1) (a .turn .place) (rests-few _ (c .before .before .stage .given .1) (p .4)))
 
-enum-known-stage-2 : tie.Need-enum-known-stage-2
-enum-known-stage-2 c = search needs
-
 asks-requires : tie.Need-asks-requires
 asks-requires c κs = let p = c .before .before .before .before .before .before .pre in (p .0, p .1, p .2, p .3, ready-asked _ _ (c .before .before .stage2 .given .1) (p .5))
-
-enum-known-stage-3 : tie.Need-enum-known-stage-3
-enum-known-stage-3 c = search needs
-
-failed-requires : tie.Need-failed-requires
-failed-requires c κs = search needs
-
-enum-known-stage-4 : tie.Need-enum-known-stage-4
-enum-known-stage-4 c = search needs
-
-failed-requires-2 : tie.Need-failed-requires-2
-failed-requires-2 c κs = search needs
-
-same-length : tie.Need-same-length
-same-length c = search needs
 
 returns : tie.Need-returns
 returns c =
@@ -46,9 +25,6 @@ returns c =
     let p = start .pre in
     let h = take (a .n) (a .hold .now) in
     keeps-waits (a .turn .place) h (a .piece .now) (a .hold .now) (held-long (a .n) (a .hold .now) (a .piece .now) (p .0) (p .1)) (p .3) (asksAt (a .turn .last) (lastIn (a .turn) (h ++ a .piece .now))) (c .before .before .before .before .before .stage .given .1) (c .before .before .waits .ensures .0) (c .before .before .waits .ensures .1)
-
-same-length-2 : tie.Need-same-length-2
-same-length-2 c = search needs
 
 returns-2 : tie.Need-returns-2
 returns-2 c =
@@ -73,17 +49,17 @@ pub came-to-spec : {M : Type 1} → statement M
 came-to-spec =
     tie.close
     (tie.spec
-    enum-known-stage
+    (λ c. search needs)
     waits-requires
-    enum-known-stage-2
+    (λ c. search needs)
     asks-requires
-    enum-known-stage-3
-    failed-requires
-    enum-known-stage-4
-    failed-requires-2
-    same-length
+    (λ c. search needs)
+    (λ c κs. search needs)
+    (λ c. search needs)
+    (λ c κs. search needs)
+    (λ c. search needs)
     returns
-    same-length-2
+    (λ c. search needs)
     returns-2
     returns-3
     returns-4)

@@ -6,9 +6,6 @@ use borrow.Author.Needs.{needs}
 use Rattle.serving_pieces.proofs.take.Statement.{statement}
 use Rattle.serving_pieces.proofs.take.Tie as tie
 
-slice-reshare-prefix-work : tie.Need-slice-reshare-prefix-work
-slice-reshare-prefix-work c = search needs
-
 slice-aggregate-work : tie.Need-slice-aggregate-work
 slice-aggregate-work c =
     let start = c .before .before .before .before .before .before in
@@ -27,12 +24,6 @@ came-to-requires c κs =
     let w = c .before .before .before .work .ensures in
     (p .0, p .1, w .spans, place-inside (a .n) (a .hold .now) (a .piece .now) (p .0) (p .1) _ (w .inside), w .rests, w .ready)
 
-same-length : tie.Need-same-length
-same-length c = search needs
-
-same-length-2 : tie.Need-same-length-2
-same-length-2 c = search needs
-
 returns : tie.Need-returns
 returns c =
     let a = c .before .before .before .before .before .before .before .before .before .before .before .before .before .before .args in
@@ -43,10 +34,10 @@ pub take-spec : {M : Type 1} → statement M
 take-spec =
     tie.close
     (tie.spec
-    slice-reshare-prefix-work
+    (λ c. search needs)
     slice-aggregate-work
     work-requires
     came-to-requires
-    same-length
-    same-length-2
+    (λ c. search needs)
+    (λ c. search needs)
     returns)

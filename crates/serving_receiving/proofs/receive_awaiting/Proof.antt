@@ -4,29 +4,11 @@ use borrow.Author.Needs.{needs}
 use Rattle.serving_receiving.proofs.receive_awaiting.Statement.{statement}
 use Rattle.serving_receiving.proofs.receive_awaiting.Tie as tie
 
-unchanged-requires : tie.Need-unchanged-requires
-unchanged-requires c κs = search needs
-
 returns : tie.Need-returns
 returns c = let a = c .before .before .before .before .before .before .before .args in receives-short (a .held) _ (a .hold .now) (a .piece .now) (a .bound) (a .out .now) (a .field) (omega (arith, c .before .if1 .taken)) (c .unchanged .ensures)
 
-unchanged-requires-2 : tie.Need-unchanged-requires-2
-unchanged-requires-2 c κs = search needs
-
 returns-2 : tie.Need-returns-2
 returns-2 c = let a = c .before .before .before .before .before .before .before .before .args in receives-none (a .held) _ (a .hold .now) (a .piece .now) (a .bound) (a .out .now) (a .field) (omega (arith, c .before .before .if1 .left)) (omega (arith, c .before .if2 .taken)) (c .unchanged2 .ensures)
-
-least-requires : tie.Need-least-requires
-least-requires c κs = search needs
-
-take-requires : tie.Need-take-requires
-take-requires c κs = search needs
-
-same-length : tie.Need-same-length
-same-length c = search needs
-
-same-length-2 : tie.Need-same-length-2
-same-length-2 c = search needs
 
 returns-3 : tie.Need-returns-3
 returns-3 c =
@@ -39,12 +21,12 @@ pub receive-awaiting-spec : {M : Type 1} → statement M
 receive-awaiting-spec =
     tie.close
     (tie.spec
-    unchanged-requires
+    (λ c κs. search needs)
     returns
-    unchanged-requires-2
+    (λ c κs. search needs)
     returns-2
-    least-requires
-    take-requires
-    same-length
-    same-length-2
+    (λ c κs. search needs)
+    (λ c κs. search needs)
+    (λ c. search needs)
+    (λ c. search needs)
     returns-3)

@@ -8,18 +8,6 @@ use Rattle.serving_replies.proofs.put_connect_reply.Tie as tie
 sixteen : (c : tie.Start) → length (c .args .bound .address) ≡ 16
 sixteen c = search needs
 
-size-of-requires : tie.Need-size-of-requires
-size-of-requires c κs = search needs
-
-put-two-requires : tie.Need-put-two-requires
-put-two-requires c κs = search needs
-
-type-of-requires : tie.Need-type-of-requires
-type-of-requires c κs = search needs
-
-put-two-requires-2 : tie.Need-put-two-requires-2
-put-two-requires-2 c κs = search needs
-
 array-share-prefix-address : tie.Need-array-share-prefix-address
 array-share-prefix-address c =
     let start = c .before .before .before .before .before .before .before .before .before .before .before .before .before in
@@ -40,9 +28,6 @@ put-port-requires c κs =
     let start = c .before .before .before .before .before .before .before .before .before .before .before .before .before .before .before .before .before .before in
     port-room (start .args .bound .family) (start .args .bound .address) (sixteen start) (c .before .before .before .before .before .before .before .before .before .before .before .before .before .before .before .size-of .ensures) (c .before .before .before .before .before .before .before .before .before .before .before .before .before .put-two .ensures) (c .before .before .before .before .before .before .before .before .put-two2 .ensures) (c .before .before .before .copy .ensures) refl refl (start .pre)
 
-same-length : tie.Need-same-length
-same-length c = search needs
-
 returns : tie.Need-returns
 returns c =
     let start = c .before .before .before .before .before .before .before .before .before .before .before .before .before .before .before .before .before .before .before .before .before in
@@ -52,13 +37,13 @@ pub put-connect-reply-spec : {M : Type 1} → statement M
 put-connect-reply-spec =
     tie.close
     (tie.spec
-    size-of-requires
-    put-two-requires
-    type-of-requires
-    put-two-requires-2
+    (λ c κs. search needs)
+    (λ c κs. search needs)
+    (λ c κs. search needs)
+    (λ c κs. search needs)
     array-share-prefix-address
     slice-aggregate-copy
     copy-requires
     put-port-requires
-    same-length
+    (λ c. search needs)
     returns)

@@ -8,18 +8,6 @@ use Rattle.serving_replies.proofs.put_request_reply.Tie as tie
 sixteen : (c : tie.Start) → length (c .args .bound .address) ≡ 16
 sixteen c = search needs
 
-four-of-requires : tie.Need-four-of-requires
-four-of-requires c κs = search needs
-
-put-two-requires : tie.Need-put-two-requires
-put-two-requires c κs = search needs
-
-put-port-requires : tie.Need-put-port-requires
-put-port-requires c κs = search needs
-
-array-share-prefix-address : tie.Need-array-share-prefix-address
-array-share-prefix-address c = search needs
-
 slice-aggregate-copy : tie.Need-slice-aggregate-copy
 slice-aggregate-copy c =
     let start = c .before .before .before .before .before .before .before .before .before .before .before .before in
@@ -30,9 +18,6 @@ copy-requires c κs =
     let start = c .before .before .before .before .before .before .before .before .before .before .before .before in
     four-room (start .args .bound) (sixteen start) (c .before .before .before .before .before .before .before .before .before .before .four-of .ensures) (c .before .before .before .before .before .before .before .before .put-two .ensures) (c .before .before .before .before .put-port .ensures) refl refl (start .pre)
 
-same-length : tie.Need-same-length
-same-length c = search needs
-
 returns : tie.Need-returns
 returns c =
     let start = c .before .before .before .before .before .before .before .before .before .before .before .before .before .before .before in
@@ -42,11 +27,11 @@ pub put-request-reply-spec : {M : Type 1} → statement M
 put-request-reply-spec =
     tie.close
     (tie.spec
-    four-of-requires
-    put-two-requires
-    put-port-requires
-    array-share-prefix-address
+    (λ c κs. search needs)
+    (λ c κs. search needs)
+    (λ c κs. search needs)
+    (λ c. search needs)
     slice-aggregate-copy
     copy-requires
-    same-length
+    (λ c. search needs)
     returns)

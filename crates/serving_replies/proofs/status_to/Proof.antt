@@ -4,12 +4,6 @@ use borrow.Author.Needs.{needs}
 use Rattle.serving_replies.proofs.status_to.Statement.{statement}
 use Rattle.serving_replies.proofs.status_to.Tie as tie
 
-enum-told : tie.Need-enum-told
-enum-told c = search needs
-
-enum-told-2 : tie.Need-enum-told-2
-enum-told-2 c = search needs
-
 returns : tie.Need-returns
 returns c =
     let a = c .before .before .before .before .args in
@@ -32,4 +26,7 @@ returns-4 c =
     above-five (a .version) (a .status) (c .before .enum-told2 .given .1) (c .if3 .left)
 
 pub status-to-spec : {M : Type 1} → statement M
-status-to-spec = tie.close (tie.spec enum-told enum-told-2 returns returns-2 returns-3 returns-4)
+status-to-spec = tie.close (tie.spec
+    (λ c. search needs)
+    (λ c. search needs)
+    returns returns-2 returns-3 returns-4)

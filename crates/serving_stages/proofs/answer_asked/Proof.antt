@@ -4,18 +4,6 @@ use borrow.Author.Needs.{needs}
 use Rattle.serving_stages.proofs.answer_asked.Statement.{statement}
 use Rattle.serving_stages.proofs.answer_asked.Tie as tie
 
-unanswered-requires : tie.Need-unanswered-requires
-unanswered-requires c κs = search needs
-
-put-answer-requires : tie.Need-put-answer-requires
-put-answer-requires c κs = search needs
-
-stage-after-requires : tie.Need-stage-after-requires
-stage-after-requires c κs = search needs
-
-same-length : tie.Need-same-length
-same-length c = search needs
-
 returns-2 : tie.Need-returns-2
 returns-2 c =
     let d = c .before .before .before in
@@ -31,9 +19,9 @@ pub answer-asked-spec : {M : Type 1} → statement M
 answer-asked-spec =
     tie.close
     (tie.spec
-    unanswered-requires
+    (λ c κs. search needs)
     returns
-    put-answer-requires
-    stage-after-requires
-    same-length
+    (λ c κs. search needs)
+    (λ c κs. search needs)
+    (λ c. search needs)
     returns-2)

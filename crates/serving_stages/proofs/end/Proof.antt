@@ -3,27 +3,6 @@ use borrow.Author.Needs.{needs}
 use Rattle.serving_stages.proofs.end.Statement.{statement}
 use Rattle.serving_stages.proofs.end.Tie as tie
 
-enum-known-stage : tie.Need-enum-known-stage
-enum-known-stage c = search needs
-
-enum-known-stage-2 : tie.Need-enum-known-stage-2
-enum-known-stage-2 c = search needs
-
-unended-requires : tie.Need-unended-requires
-unended-requires c κs = search needs
-
-enum-known-stage-3 : tie.Need-enum-known-stage-3
-enum-known-stage-3 c = search needs
-
-unended-requires-2 : tie.Need-unended-requires-2
-unended-requires-2 c κs = search needs
-
-enum-known-stage-4 : tie.Need-enum-known-stage-4
-enum-known-stage-4 c = search needs
-
-unended-requires-3 : tie.Need-unended-requires-3
-unended-requires-3 c κs = search needs
-
 returns : tie.Need-returns
 returns c = rw (c .before .stage .given .1)
 
@@ -40,13 +19,13 @@ pub end-spec : {M : Type 1} → statement M
 end-spec =
     tie.close
     (tie.spec
-    enum-known-stage
-    enum-known-stage-2
-    unended-requires
-    enum-known-stage-3
-    unended-requires-2
-    enum-known-stage-4
-    unended-requires-3
+    (λ c. search needs)
+    (λ c. search needs)
+    (λ c κs. search needs)
+    (λ c. search needs)
+    (λ c κs. search needs)
+    (λ c. search needs)
+    (λ c κs. search needs)
     returns
     returns-2
     returns-3

@@ -3,12 +3,6 @@ use borrow.Author.Needs.{needs}
 use Rattle.serving_stages.proofs.stage_after.Statement.{statement}
 use Rattle.serving_stages.proofs.stage_after.Tie as tie
 
-status-to-requires : tie.Need-status-to-requires
-status-to-requires c κs = search needs
-
-success-requires : tie.Need-success-requires
-success-requires c κs = search needs
-
 returns : tie.Need-returns
 returns c =
     let a = c .before .before .before .args in
@@ -20,4 +14,7 @@ returns-2 c =
     fails (a .version) (a .status) (c .before .before .status-to .ensures) (c .before .success .ensures) (c .if1 .left)
 
 pub stage-after-spec : {M : Type 1} → statement M
-stage-after-spec = tie.close (tie.spec status-to-requires success-requires returns returns-2)
+stage-after-spec = tie.close (tie.spec
+    (λ c κs. search needs)
+    (λ c κs. search needs)
+    returns returns-2)

@@ -8,20 +8,11 @@ use borrow.Author.Needs.{needs}
 use Rattle.serving_turns.proofs.step_good.Statement.{statement}
 use Rattle.serving_turns.proofs.step_good.Tie as tie
 
-judge-at-requires : tie.Need-judge-at-requires
-judge-at-requires c κs = search needs
-
 put-requires : tie.Need-put-requires
 put-requires c κs =
     let start = c .before .before .before .before .before .before .before in
     let r = rank-bounds (start .args .field) in
     omega (arith, start .pre)
-
-awaited-requires : tie.Need-awaited-requires
-awaited-requires c κs = search needs
-
-same-length : tie.Need-same-length
-same-length c = search needs
 
 returns : tie.Need-returns
 returns c =
@@ -35,4 +26,9 @@ returns c =
 
 pub step-good-spec : {M : Type 1} → statement M
 step-good-spec =
-    tie.close (tie.spec judge-at-requires put-requires awaited-requires same-length returns)
+    tie.close (tie.spec
+    (λ c κs. search needs)
+    put-requires
+    (λ c κs. search needs)
+    (λ c. search needs)
+    returns)

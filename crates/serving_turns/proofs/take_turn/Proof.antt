@@ -37,21 +37,6 @@ ends : (c : tie.After-slice-known) {n : ℕ} {v : Verdict SocksError}
     → (let a = c .before .before .before .before .before .args in side.reads (a .field) (drop (a .place) (a .held .now ++ a .piece .now)) ≡ decided n v → a .place + n ≤ length (a .held .now ++ a .piece .now))
 ends c {n} {v} e = let a = c .before .before .before .before .before .args in within-at (record { authenticates = a .authenticates; user = a .user .now; password = a .password .now }) (a .field) (a .held .now ++ a .piece .now) (a .place) n v (there c) e
 
-read-at-requires : tie.Need-read-at-requires
-read-at-requires c κs = search needs
-
-enum-told : tie.Need-enum-told
-enum-told c = search needs
-
-stops-requires : tie.Need-stops-requires
-stops-requires c κs = search needs
-
-enum-known-n : tie.Need-enum-known-n
-enum-known-n c = search needs
-
-enum-told-2 : tie.Need-enum-told-2
-enum-told-2 c = search needs
-
 add-step-good : tie.Need-add-step-good
 add-step-good c = record { fits = omega (arith, small (c .before .before .before .before .before .before), ends (c .before .before .before .before .before .before) (told-decided (c .before .before .before .n .given .0 .0) _ Good (c .before .before .before .before .before .read-at .ensures) (c .before .before .before .n .given .1) (c .enum-told2 .given .1))) }
 
@@ -64,16 +49,10 @@ step-good-requires c κs =
     let k : n ≡ a .place + n - a .place = omega arith in
     ((omega arith, (omega (arith, ends g e, length-append (a .held .now) (a .piece .now)), g .before .before .before .before .before .pre .1)), e ∙ ap (λ (i : ℕ). decided i good) k)
 
-enum-known-verdict : tie.Need-enum-known-verdict
-enum-known-verdict c = search needs
-
 add-stops : tie.Need-add-stops
 add-stops c =
     let e = told-decided (c .before .before .before .before .n .given .0 .0) _ _ (c .before .before .before .before .before .before .read-at .ensures) (c .before .before .before .before .n .given .1) (c .before .verdict .given .1) in
     record { fits = omega (arith, small (c .before .before .before .before .before .before .before), ends (c .before .before .before .before .before .before .before) e) }
-
-stops-requires-2 : tie.Need-stops-requires-2
-stops-requires-2 c κs = search needs
 
 returns : tie.Need-returns
 returns c =
@@ -81,12 +60,6 @@ returns c =
     let a = g .before .before .before .before .before .args in
     let e = told-undecided (c .before .before .before .read-at .ensures) (c .before .enum-told .given .1) in
     stopped _ (a .field) (c .stops .ensures) (waits-worked _ (a .field) (a .held .now ++ a .piece .now) (a .place) (a .out .now) (a .sent) (there g) (bytes g) (room g) e)
-
-same-length : tie.Need-same-length
-same-length c = search needs
-
-returns-2 : tie.Need-returns-2
-returns-2 c = search needs
 
 returns-3 : tie.Need-returns-3
 returns-3 c =
@@ -99,17 +72,17 @@ pub take-turn-spec : {M : Type 1} → statement M
 take-turn-spec =
     tie.close
     (tie.spec
-    read-at-requires
-    enum-told
-    stops-requires
-    enum-known-n
-    enum-told-2
+    (λ c κs. search needs)
+    (λ c. search needs)
+    (λ c κs. search needs)
+    (λ c. search needs)
+    (λ c. search needs)
     add-step-good
     step-good-requires
-    enum-known-verdict
+    (λ c. search needs)
     add-stops
-    stops-requires-2
+    (λ c κs. search needs)
     returns
-    same-length
-    returns-2
+    (λ c. search needs)
+    (λ c. search needs)
     returns-3)

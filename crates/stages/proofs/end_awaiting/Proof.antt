@@ -4,9 +4,6 @@ use borrow.Author.Needs.{needs}
 use Rattle.stages.proofs.end_awaiting.Statement.{statement}
 use Rattle.stages.proofs.end_awaiting.Tie as tie
 
-unended-requires : tie.Need-unended-requires
-unended-requires c κs = search needs
-
 returns : tie.Need-returns
 returns c =
     let a = c .before .before .args in
@@ -18,4 +15,6 @@ returns-2 c =
     ends-failed (a .stage) (a .started) (a .held) (not-false _ (c .if1 .left))
 
 pub end-awaiting-spec : {M : Type 1} → statement M
-end-awaiting-spec = tie.close (tie.spec unended-requires returns returns-2)
+end-awaiting-spec = tie.close (tie.spec
+    (λ c κs. search needs)
+    returns returns-2)

@@ -2,15 +2,6 @@ use borrow.Author.Needs.{needs}
 use Rattle.stages.proofs.outcome.Statement.{statement}
 use Rattle.stages.proofs.outcome.Tie as tie
 
-enum-known-stage : tie.Need-enum-known-stage
-enum-known-stage c = search needs
-
-enum-told : tie.Need-enum-told
-enum-told c = search needs
-
-enum-known-stage-2 : tie.Need-enum-known-stage-2
-enum-known-stage-2 c = search needs
-
 returns : tie.Need-returns
 returns c b h = rw (c .before .stage .given .1)
 
@@ -22,4 +13,8 @@ returns-3 c b h = rw (c .before .stage2 .given .1)
 
 pub outcome-spec : {M : Type 1} → statement M
 outcome-spec =
-    tie.close (tie.spec enum-known-stage enum-told enum-known-stage-2 returns returns-2 returns-3)
+    tie.close (tie.spec
+    (λ c. search needs)
+    (λ c. search needs)
+    (λ c. search needs)
+    returns returns-2 returns-3)

@@ -3,21 +3,6 @@ use borrow.Author.Needs.{needs}
 use Rattle.starting.proofs.first_size5.Statement.{statement}
 use Rattle.starting.proofs.first_size5.Tie as tie
 
-least-requires : tie.Need-least-requires
-least-requires c κs = search needs
-
-least-requires-2 : tie.Need-least-requires-2
-least-requires-2 c κs = search needs
-
-add-result : tie.Need-add-result
-add-result c = search needs
-
-least-requires-3 : tie.Need-least-requires-3
-least-requires-3 c κs = search needs
-
-add-result-2 : tie.Need-add-result-2
-add-result-2 c = search needs
-
 returns : tie.Need-returns
 returns c = all-go (c .before .before .before .before .args .lengths) (c .before .before .if1 .taken) (c .before .before .before .least .ensures) (c .before .least2 .ensures) (c .least3 .ensures)
 
@@ -28,10 +13,10 @@ pub first-size5-spec : {M : Type 1} → statement M
 first-size5-spec =
     tie.close
     (tie.spec
-    least-requires
-    least-requires-2
-    add-result
-    least-requires-3
-    add-result-2
+    (λ c κs. search needs)
+    (λ c κs. search needs)
+    (λ c. search needs)
+    (λ c κs. search needs)
+    (λ c. search needs)
     returns
     returns-2)

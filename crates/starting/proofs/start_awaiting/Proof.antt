@@ -3,27 +3,15 @@ use borrow.Author.Needs.{needs}
 use Rattle.starting.proofs.start_awaiting.Statement.{statement}
 use Rattle.starting.proofs.start_awaiting.Tie as tie
 
-refuse-requires : tie.Need-refuse-requires
-refuse-requires c κs = search needs
-
 returns : tie.Need-returns
 returns c =
     let a = c .before .before .args in
     awaits-started (a .reply) (a .lengths) (a .room) (c .before .if1 .taken) (c .refuse .ensures)
 
-room-of-requires : tie.Need-room-of-requires
-room-of-requires c κs = search needs
-
-refuse-requires-2 : tie.Need-refuse-requires-2
-refuse-requires-2 c κs = search needs
-
 returns-2 : tie.Need-returns-2
 returns-2 c =
     let a = c .before .before .before .before .args in
     awaits-short (a .reply) (a .lengths) (a .room) (c .before .before .before .if1 .left) (c .before .before .room-of .ensures) (c .before .if2 .taken) (c .refuse2 .ensures)
-
-first-size-requires : tie.Need-first-size-requires
-first-size-requires c κs = search needs
 
 returns-3 : tie.Need-returns-3
 returns-3 c =
@@ -34,10 +22,10 @@ pub start-awaiting-spec : {M : Type 1} → statement M
 start-awaiting-spec =
     tie.close
     (tie.spec
-    refuse-requires
+    (λ c κs. search needs)
     returns
-    room-of-requires
-    refuse-requires-2
+    (λ c κs. search needs)
+    (λ c κs. search needs)
     returns-2
-    first-size-requires
+    (λ c κs. search needs)
     returns-3)

@@ -7,9 +7,6 @@ use borrow.Author.Needs.{needs}
 use Rattle.taking.proofs.came_to.Statement.{statement}
 use Rattle.taking.proofs.came_to.Tie as tie
 
-enum-known-stage : tie.Need-enum-known-stage
-enum-known-stage c = search needs
-
 waits-requires : tie.Need-waits-requires
 waits-requires c κs =
     let start = c .before .before .before .before .before .before in
@@ -17,23 +14,8 @@ waits-requires c κs =
     let p = start .pre in
     (p .0, p .1, p .2, unread-few (a .turn .place) (a .n) (a .hold .now) (a .piece .now) (p .0) (p .1) (rests-few _ (c .before .before .stage .given .1) (p .3)), p .5)
 
-enum-told : tie.Need-enum-told
-enum-told c = search needs
-
 opened-requires : tie.Need-opened-requires
 opened-requires c κs = let p = c .before .before .before .before .before .pre in (p .0, p .1, p .2, ready-open _ _ _ (c .before .enum-told .given .1) (p .4))
-
-enum-known-stage-2 : tie.Need-enum-known-stage-2
-enum-known-stage-2 c = search needs
-
-failed-requires : tie.Need-failed-requires
-failed-requires c κs = search needs
-
-same-length : tie.Need-same-length
-same-length c = search needs
-
-same-length-2 : tie.Need-same-length-2
-same-length-2 c = search needs
 
 returns : tie.Need-returns
 returns c =
@@ -66,14 +48,14 @@ pub came-to-spec : {M : Type 1} → statement M
 came-to-spec =
     tie.close
     (tie.spec
-    enum-known-stage
+    (λ c. search needs)
     waits-requires
-    enum-told
+    (λ c. search needs)
     opened-requires
-    enum-known-stage-2
-    failed-requires
-    same-length
+    (λ c. search needs)
+    (λ c κs. search needs)
+    (λ c. search needs)
     returns
-    same-length-2
+    (λ c. search needs)
     returns-2
     returns-3)

@@ -3,11 +3,10 @@ use borrow.Author.Needs.{needs}
 use Rattle.taking.proofs.failed.Statement.{statement}
 use Rattle.taking.proofs.failed.Tie as tie
 
-used-behind-requires : tie.Need-used-behind-requires
-used-behind-requires c κs = search needs
-
 returns : tie.Need-returns
 returns c = let a = c .before .args in used-is (a .turn .stage) (a .from) (a .turn .sent) (a .turn .decided) (a .bound) (c .used-behind .ensures)
 
 pub failed-spec : {M : Type 1} → statement M
-failed-spec = tie.close (tie.spec used-behind-requires returns)
+failed-spec = tie.close (tie.spec
+    (λ c κs. search needs)
+    returns)

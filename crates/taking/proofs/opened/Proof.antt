@@ -9,14 +9,11 @@ keep-requires c κs =
     let p = start .pre in
     (p .0, p .1, begin-inside (start .args .n) (start .args .hold .now) (start .args .piece .now) (p .0) (p .1) (p .3 .0), p .3 .1)
 
-used-behind-requires : tie.Need-used-behind-requires
-used-behind-requires c κs = search needs
-
-same-length : tie.Need-same-length
-same-length c = search needs
-
 returns : tie.Need-returns
 returns c = let a = c .before .before .before .before .before .before .before .before .args in opens-as (a .turn .stage) (a .from) (a .turn .sent) (a .turn .decided) (c .before .before .before .before .keep .ensures) (c .used-behind .ensures)
 
 pub opened-spec : {M : Type 1} → statement M
-opened-spec = tie.close (tie.spec keep-requires used-behind-requires same-length returns)
+opened-spec = tie.close (tie.spec keep-requires
+    (λ c κs. search needs)
+    (λ c. search needs)
+    returns)

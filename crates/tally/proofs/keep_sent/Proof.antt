@@ -7,9 +7,6 @@ use borrow.Author.Needs.{needs}
 use Rattle.tally.proofs.keep_sent.Statement.{statement}
 use Rattle.tally.proofs.keep_sent.Tie as tie
 
-sub-if1 : tie.Need-sub-if1
-sub-if1 c = search needs
-
 returns : tie.Need-returns
 returns c = (search needs, rw (lt-ltb _ _ (c .if1 .taken)) (nothing _ _))
 
@@ -20,9 +17,6 @@ put-bytes-requires : tie.Need-put-bytes-requires
 put-bytes-requires c κs = let a = c .before .before .before .before .before .args in
     omega (arith, length-take-le (a .n) (a .out .now) (search needs))
 
-same-length : tie.Need-same-length
-same-length c = search needs
-
 returns-2 : tie.Need-returns-2
 returns-2 c = let a = c .before .before .before .before .before .before .before .before .args in
     (omega (arith, length-take-le (a .n) (a .out .now) (search needs), c .before .before .put-bytes .ensures .0), rw (le-ltb _ _ (c .before .before .before .before .before .if1 .left)) (c .before .before .put-bytes .ensures .1))
@@ -30,4 +24,8 @@ returns-2 c = let a = c .before .before .before .before .before .before .before 
 pub keep-sent-spec : {M : Type 1} → statement M
 keep-sent-spec =
     tie.close
-    (tie.spec sub-if1 returns slice-aggregate-put-bytes put-bytes-requires same-length returns-2)
+    (tie.spec
+    (λ c. search needs)
+    returns slice-aggregate-put-bytes put-bytes-requires
+    (λ c. search needs)
+    returns-2)

@@ -11,18 +11,6 @@ use Rattle.tally.proofs.put.Tie as tie
 most-sent : 8192 ≤ 73727
 most-sent = omega arith
 
-add-stop : tie.Need-add-stop
-add-stop c = search needs
-
-sub-put-line : tie.Need-sub-put-line
-sub-put-line c = search needs
-
-part-put-line-start : tie.Need-part-put-line-start
-part-put-line-start c = search needs
-
-part-put-line-end : tie.Need-part-put-line-end
-part-put-line-end c = search needs
-
 slice-aggregate-put-line : tie.Need-slice-aggregate-put-line
 slice-aggregate-put-line c =
     let b = c .before .before .before .before .before .before in
@@ -33,21 +21,15 @@ put-line-requires c κs =
     let b = c .before .before .before .before .before .before .before in
     (b .pre .0 .line, (short-part 8192 (b .args .tally .count) 65535 _ (b .pre .0 .few), (short (b .args .tally .sent) 8192 _ (b .pre .0 .kept), b .pre .1 .long)))
 
-same-length : tie.Need-same-length
-same-length c = search needs
-
-returns : tie.Need-returns
-returns c = search needs
-
 pub put-spec : {M : Type 1} → statement M
 put-spec =
     tie.close
     (tie.spec
-    add-stop
-    sub-put-line
-    part-put-line-start
-    part-put-line-end
+    (λ c. search needs)
+    (λ c. search needs)
+    (λ c. search needs)
+    (λ c. search needs)
     slice-aggregate-put-line
     put-line-requires
-    same-length
-    returns)
+    (λ c. search needs)
+    (λ c. search needs))

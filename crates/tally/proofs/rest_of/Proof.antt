@@ -3,17 +3,15 @@ use borrow.Author.Needs.{needs}
 use Rattle.tally.proofs.rest_of.Statement.{statement}
 use Rattle.tally.proofs.rest_of.Tie as tie
 
-slice-aggregate-result : tie.Need-slice-aggregate-result
-slice-aggregate-result c = search needs
-
 returns : tie.Need-returns
 returns c = rw (lt-ltb _ _ (c .before .if1 .taken))
-
-rest-requires : tie.Need-rest-requires
-rest-requires c κs = search needs
 
 returns-2 : tie.Need-returns-2
 returns-2 c = rw (le-ltb _ _ (c .before .if1 .left)) (c .rest .ensures)
 
 pub rest-of-spec : {M : Type 1} → statement M
-rest-of-spec = tie.close (tie.spec slice-aggregate-result returns rest-requires returns-2)
+rest-of-spec = tie.close (tie.spec
+    (λ c. search needs)
+    returns
+    (λ c κs. search needs)
+    returns-2)

@@ -22,8 +22,6 @@ long = at-least 131072 262144 (omega arith)
 run-requires : tie.Need-run-requires
 run-requires c κs = long
 
-returns : tie.Need-returns
-returns c = search needs
-
 pub main-spec : {M : Type 1} → statement M
-main-spec = tie.close (tie.spec slice-aggregate-run slice-aggregate-run-2 run-requires returns)
+main-spec = tie.close (tie.spec slice-aggregate-run slice-aggregate-run-2 run-requires
+    (λ c. search needs))

@@ -8,26 +8,11 @@ use borrow.Author.Needs.{needs}
 use Rattle.texts.proofs.put_host.Statement.{statement}
 use Rattle.texts.proofs.put_host.Tie as tie
 
-strip-ipv6-brackets-requires : tie.Need-strip-ipv6-brackets-requires
-strip-ipv6-brackets-requires c κs = search needs
-
-slice-write-out : tie.Need-slice-write-out
-slice-write-out c = search needs
-
-add-result : tie.Need-add-result
-add-result c = search needs
-
-same-length : tie.Need-same-length
-same-length c = search needs
-
 returns : tie.Need-returns
 returns c = (search needs, rw (← c .before .strip-ipv6-brackets .ensures, eq-eqb _ _ (c .if1 .taken)) (one _ _ _ (search needs)))
 
 put-hex-requires : tie.Need-put-hex-requires
 put-hex-requires c κs = omega (arith, ap length (c .before .before .strip-ipv6-brackets .ensures), strip-short (c .before .before .before .before .before .args .text .now))
-
-same-length-2 : tie.Need-same-length-2
-same-length-2 c = search needs
 
 returns-2 : tie.Need-returns-2
 returns-2 c = (
@@ -39,11 +24,11 @@ pub put-host-spec : {M : Type 1} → statement M
 put-host-spec =
     tie.close
     (tie.spec
-    strip-ipv6-brackets-requires
-    slice-write-out
-    add-result
-    same-length
+    (λ c κs. search needs)
+    (λ c. search needs)
+    (λ c. search needs)
+    (λ c. search needs)
     returns
     put-hex-requires
-    same-length-2
+    (λ c. search needs)
     returns-2)

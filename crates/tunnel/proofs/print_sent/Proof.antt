@@ -13,8 +13,6 @@ print-hex-requires c κs =
     let b = c .before .before in
     omega (arith, length-take-le (b .args .n) (b .args .out .now) (b .pre .0))
 
-returns : tie.Need-returns
-returns c = search needs
-
 pub print-sent-spec : {M : Type 1} → statement M
-print-sent-spec = tie.close (tie.spec slice-aggregate-print-hex print-hex-requires returns)
+print-sent-spec = tie.close (tie.spec slice-aggregate-print-hex print-hex-requires
+    (λ c. search needs))

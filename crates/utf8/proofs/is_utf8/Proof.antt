@@ -4,15 +4,12 @@ use Rattle.protocol.specs.Utf8.{isBoundary, isUtf8}
 use Rattle.utf8.proofs.is_utf8.Statement.{statement}
 use Rattle.utf8.proofs.is_utf8.Tie as tie
 
-scanned-requires : tie.Need-scanned-requires
-scanned-requires c κs = search needs
-
-is-boundary-requires : tie.Need-is-boundary-requires
-is-boundary-requires c κs = search needs
-
 returns : tie.Need-returns
 unfolding isUtf8
 returns c = c .is-boundary .ensures ∙ ap isBoundary (c .before .scanned .ensures)
 
 pub is-utf8-spec : {M : Type 1} → statement M
-is-utf8-spec = tie.close (tie.spec scanned-requires is-boundary-requires returns)
+is-utf8-spec = tie.close (tie.spec
+    (λ c κs. search needs)
+    (λ c κs. search needs)
+    returns)

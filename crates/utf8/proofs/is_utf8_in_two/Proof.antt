@@ -4,23 +4,8 @@ use Rattle.utf8.proofs.Laws.{in-two, in-two-ascii}
 use Rattle.utf8.proofs.is_utf8_in_two.Statement.{statement}
 use Rattle.utf8.proofs.is_utf8_in_two.Tie as tie
 
-is-ascii-requires : tie.Need-is-ascii-requires
-is-ascii-requires c κs = search needs
-
-is-ascii-requires-2 : tie.Need-is-ascii-requires-2
-is-ascii-requires-2 c κs = search needs
-
 returns : tie.Need-returns
 returns c = in-two-ascii _ _ (c .before .before .before .is-ascii .ensures (c .before .before .if1 .taken)) (c .before .is-ascii2 .ensures (c .if2 .taken))
-
-scanned-requires : tie.Need-scanned-requires
-scanned-requires c κs = search needs
-
-scanned-requires-2 : tie.Need-scanned-requires-2
-scanned-requires-2 c κs = search needs
-
-is-boundary-requires : tie.Need-is-boundary-requires
-is-boundary-requires c κs = search needs
 
 returns-2 : tie.Need-returns-2
 returns-2 c = c .is-boundary .ensures ∙ in-two _ _ _ _ (c .before .before .scanned .ensures) (c .before .scanned2 .ensures)
@@ -29,10 +14,10 @@ pub is-utf8-in-two-spec : {M : Type 1} → statement M
 is-utf8-in-two-spec =
     tie.close
     (tie.spec
-    is-ascii-requires
-    is-ascii-requires-2
+    (λ c κs. search needs)
+    (λ c κs. search needs)
     returns
-    scanned-requires
-    scanned-requires-2
-    is-boundary-requires
+    (λ c κs. search needs)
+    (λ c κs. search needs)
+    (λ c κs. search needs)
     returns-2)

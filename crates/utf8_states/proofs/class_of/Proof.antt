@@ -4,12 +4,11 @@ use borrow.Author.Needs.{needs}
 use Rattle.utf8_states.proofs.class_of.Statement.{statement}
 use Rattle.utf8_states.proofs.class_of.Tie as tie
 
-array-read-result : tie.Need-array-read-result
-array-read-result c = search needs
-
 returns : tie.Need-returns
 unfolding table
 returns c = class-at (c .args .b) (search needs)
 
 pub class-of-spec : {M : Type 1} → statement M
-class-of-spec = tie.close (tie.spec array-read-result returns)
+class-of-spec = tie.close (tie.spec
+    (λ c. search needs)
+    returns)

@@ -3,57 +3,6 @@ use borrow.Author.Needs.{needs}
 use Rattle.utf8_states.proofs.next.Statement.{statement}
 use Rattle.utf8_states.proofs.next.Tie as tie
 
-enum-told : tie.Need-enum-told
-enum-told c = search needs
-
-first-requires : tie.Need-first-requires
-first-requires c κs = search needs
-
-enum-told-2 : tie.Need-enum-told-2
-enum-told-2 c = search needs
-
-among-requires : tie.Need-among-requires
-among-requires c κs = search needs
-
-enum-told-3 : tie.Need-enum-told-3
-enum-told-3 c = search needs
-
-among-requires-2 : tie.Need-among-requires-2
-among-requires-2 c κs = search needs
-
-enum-told-4 : tie.Need-enum-told-4
-enum-told-4 c = search needs
-
-among-requires-3 : tie.Need-among-requires-3
-among-requires-3 c κs = search needs
-
-enum-told-5 : tie.Need-enum-told-5
-enum-told-5 c = search needs
-
-among-requires-4 : tie.Need-among-requires-4
-among-requires-4 c κs = search needs
-
-enum-told-6 : tie.Need-enum-told-6
-enum-told-6 c = search needs
-
-among-requires-5 : tie.Need-among-requires-5
-among-requires-5 c κs = search needs
-
-enum-told-7 : tie.Need-enum-told-7
-enum-told-7 c = search needs
-
-among-requires-6 : tie.Need-among-requires-6
-among-requires-6 c κs = search needs
-
-enum-told-8 : tie.Need-enum-told-8
-enum-told-8 c = search needs
-
-among-requires-7 : tie.Need-among-requires-7
-among-requires-7 c κs = search needs
-
-enum-told-9 : tie.Need-enum-told-9
-enum-told-9 c = search needs
-
 returns : tie.Need-returns
 unfolding next
 returns c = rw (c .before .enum-told .given .1) (c .first .ensures)
@@ -94,23 +43,23 @@ pub next-spec : {M : Type 1} → statement M
 next-spec =
     tie.close
     (tie.spec
-    enum-told
-    first-requires
-    enum-told-2
-    among-requires
-    enum-told-3
-    among-requires-2
-    enum-told-4
-    among-requires-3
-    enum-told-5
-    among-requires-4
-    enum-told-6
-    among-requires-5
-    enum-told-7
-    among-requires-6
-    enum-told-8
-    among-requires-7
-    enum-told-9
+    (λ c. search needs)
+    (λ c κs. search needs)
+    (λ c. search needs)
+    (λ c κs. search needs)
+    (λ c. search needs)
+    (λ c κs. search needs)
+    (λ c. search needs)
+    (λ c κs. search needs)
+    (λ c. search needs)
+    (λ c κs. search needs)
+    (λ c. search needs)
+    (λ c κs. search needs)
+    (λ c. search needs)
+    (λ c κs. search needs)
+    (λ c. search needs)
+    (λ c κs. search needs)
+    (λ c. search needs)
     returns
     returns-2
     returns-3

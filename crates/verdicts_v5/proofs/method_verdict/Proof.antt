@@ -3,9 +3,6 @@ use borrow.Author.Needs.{needs}
 use Rattle.verdicts_v5.proofs.method_verdict.Statement.{statement}
 use Rattle.verdicts_v5.proofs.method_verdict.Tie as tie
 
-method-byte-requires : tie.Need-method-byte-requires
-method-byte-requires c κs = search needs
-
 returns : tie.Need-returns
 returns c = simp (← c .before .method-byte .ensures, eq-eqb _ _ (c .if1 .taken))
 
@@ -13,4 +10,6 @@ returns-2 : tie.Need-returns-2
 returns-2 c = simp (← c .before .method-byte .ensures, ne-eqb _ _ (c .if1 .left))
 
 pub method-verdict-spec : {M : Type 1} → statement M
-method-verdict-spec = tie.close (tie.spec method-byte-requires returns returns-2)
+method-verdict-spec = tie.close (tie.spec
+    (λ c κs. search needs)
+    returns returns-2)

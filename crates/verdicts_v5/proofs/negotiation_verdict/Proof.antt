@@ -12,15 +12,9 @@ returns-2 : tie.Need-returns-2
 unfolding negotiationVerdict
 returns-2 c = rw (c .before .if1 .left, c .if2 .taken)
 
-method-verdict-requires : tie.Need-method-verdict-requires
-method-verdict-requires c κs = search needs
-
 returns-3 : tie.Need-returns-3
 unfolding negotiationVerdict
 returns-3 c = simp (eq-eqb _ _ (c .before .before .before .if1 .left), ne-eqb _ _ (c .before .before .if2 .left), eq-eqb _ _ (c .before .if3 .taken), ← c .method-verdict .ensures)
-
-method-verdict-requires-2 : tie.Need-method-verdict-requires-2
-method-verdict-requires-2 c κs = search needs
 
 returns-4 : tie.Need-returns-4
 unfolding negotiationVerdict
@@ -36,8 +30,8 @@ negotiation-verdict-spec =
     (tie.spec
     returns
     returns-2
-    method-verdict-requires
+    (λ c κs. search needs)
     returns-3
-    method-verdict-requires-2
+    (λ c κs. search needs)
     returns-4
     returns-5)

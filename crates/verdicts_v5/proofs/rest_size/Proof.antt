@@ -13,12 +13,6 @@ returns-2 : tie.Need-returns-2
 unfolding proxySize
 returns-2 c = (rw (ne-eqb _ 0x01 (c .before .if1 .left), eq-eqb _ 0x04 (c .if2 .taken)), omega arith)
 
-wide-requires : tie.Need-wide-requires
-wide-requires c κs = search needs
-
-add-result : tie.Need-add-result
-add-result c = search needs
-
 returns-3 : tie.Need-returns-3
 unfolding proxySize
 returns-3 c =
@@ -26,4 +20,7 @@ returns-3 c =
     (rw (ne-eqb _ 0x01 (c .before .before .if1 .left), ne-eqb _ 0x04 (c .before .if2 .left)) (omega arith), omega arith)
 
 pub rest-size-spec : {M : Type 1} → statement M
-rest-size-spec = tie.close (tie.spec returns returns-2 wide-requires add-result returns-3)
+rest-size-spec = tie.close (tie.spec returns returns-2
+    (λ c κs. search needs)
+    (λ c. search needs)
+    returns-3)

@@ -4,18 +4,16 @@ use borrow.Author.Tests.{lt-ltb, le-ltb}
 use Rattle.wanted.proofs.is_short_name.Statement.{statement}
 use Rattle.wanted.proofs.is_short_name.Tie as tie
 
-strip-ipv6-brackets-requires : tie.Need-strip-ipv6-brackets-requires
-strip-ipv6-brackets-requires c κs = search needs
-
 returns : tie.Need-returns
 returns c = rw (sym (c .before .strip-ipv6-brackets .ensures), lt-ltb _ _ (c .if1 .taken))
-
-is-name-requires : tie.Need-is-name-requires
-is-name-requires c κs = search needs
 
 returns-2 : tie.Need-returns-2
 returns-2 c = rw (c .is-name .ensures, sym (c .before .before .strip-ipv6-brackets .ensures), le-ltb _ _ (c .before .if1 .left))
 
 pub is-short-name-spec : {M : Type 1} → statement M
 is-short-name-spec =
-    tie.close (tie.spec strip-ipv6-brackets-requires returns is-name-requires returns-2)
+    tie.close (tie.spec
+    (λ c κs. search needs)
+    returns
+    (λ c κs. search needs)
+    returns-2)

@@ -3,9 +3,6 @@ use Rattle.wanted.proofs.Laws.{read-name}
 use Rattle.wanted.proofs.looks_up.Statement.{statement}
 use Rattle.wanted.proofs.looks_up.Tie as tie
 
-is-short-name-requires : tie.Need-is-short-name-requires
-is-short-name-requires c κs = search needs
-
 returns : tie.Need-returns
 returns c e = rw (c .before .if1 .taken, c .is-short-name .ensures, read-name (c .before .before .before .args .host .now) (c .before .before .before .args .read) e)
 
@@ -13,4 +10,6 @@ returns-2 : tie.Need-returns-2
 returns-2 c e = rw (c .if1 .left)
 
 pub looks-up-spec : {M : Type 1} → statement M
-looks-up-spec = tie.close (tie.spec is-short-name-requires returns returns-2)
+looks-up-spec = tie.close (tie.spec
+    (λ c κs. search needs)
+    returns returns-2)

@@ -3,9 +3,6 @@ use mathlib.Core.Path.{sym, _∙_}
 use Rattle.wanted.proofs.wanted5.Statement.{statement}
 use Rattle.wanted.proofs.wanted5.Tie as tie
 
-looks-up-requires : tie.Need-looks-up-requires
-looks-up-requires c κs = search needs
-
 returns : tie.Need-returns
 returns c e = rw (sym (c .before .looks-up .ensures e) ∙ c .if1 .taken)
 
@@ -13,4 +10,6 @@ returns-2 : tie.Need-returns-2
 returns-2 c e = rw (sym (c .before .looks-up .ensures e) ∙ c .if1 .left)
 
 pub wanted5-spec : {M : Type 1} → statement M
-wanted5-spec = tie.close (tie.spec looks-up-requires returns returns-2)
+wanted5-spec = tie.close (tie.spec
+    (λ c κs. search needs)
+    returns returns-2)

@@ -8,20 +8,8 @@ use Rattle.cases.proofs.heads.is_good.Tie as tie
 returns : tie.Need-returns
 returns c = short _ _ (c .if1 .taken)
 
-byte-at-requires : tie.Need-byte-at-requires
-byte-at-requires c κs = search needs
-
-is-version-requires : tie.Need-is-version-requires
-is-version-requires c κs = search needs
-
 returns-2 : tie.Need-returns-2
 returns-2 c = no-version _ _ (c .before .before .before .if1 .left) (sym (rw (c .before .before .byte-at .ensures) at (c .before .is-version .ensures)) ∙ not-true (c .before .is-version .result) (c .if2 .taken))
-
-add-known-families : tie.Need-add-known-families
-add-known-families c = search needs
-
-known-families-requires : tie.Need-known-families-requires
-known-families-requires c κs = search needs
 
 returns-3 : tie.Need-returns-3
 returns-3 c = let v = c .before .before .before in
@@ -32,9 +20,9 @@ is-good-spec =
     tie.close
     (tie.spec
     returns
-    byte-at-requires
-    is-version-requires
+    (λ c κs. search needs)
+    (λ c κs. search needs)
     returns-2
-    add-known-families
-    known-families-requires
+    (λ c. search needs)
+    (λ c κs. search needs)
     returns-3)

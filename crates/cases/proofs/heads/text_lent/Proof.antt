@@ -2,15 +2,6 @@ use borrow.Author.Needs.{needs}
 use Rattle.cases.proofs.heads.text_lent.Statement.{statement}
 use Rattle.cases.proofs.heads.text_lent.Tie as tie
 
-asks-text-requires : tie.Need-asks-text-requires
-asks-text-requires c κs = search needs
-
-number-at-requires : tie.Need-number-at-requires
-number-at-requires c κs = search needs
-
-lent-requires : tie.Need-lent-requires
-lent-requires c κs = search needs
-
 returns : tie.Need-returns
 returns c = (rw (← c .before .before .before .asks-text .ensures, c .before .before .if1 .taken, ← c .before .number-at .ensures) (c .lent .ensures .0), search needs)
 
@@ -19,4 +10,8 @@ returns-2 c = (rw (← c .before .asks-text .ensures, c .if1 .left), search need
 
 pub text-lent-spec : {M : Type 1} → statement M
 text-lent-spec =
-    tie.close (tie.spec asks-text-requires number-at-requires lent-requires returns returns-2)
+    tie.close (tie.spec
+    (λ c κs. search needs)
+    (λ c κs. search needs)
+    (λ c κs. search needs)
+    returns returns-2)

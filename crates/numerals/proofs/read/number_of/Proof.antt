@@ -4,22 +4,13 @@ use borrow.Author.Needs.{needs}
 use Rattle.numerals.proofs.read.number_of.Statement.{statement}
 use Rattle.numerals.proofs.read.number_of.Tie as tie
 
-no-number-requires : tie.Need-no-number-requires
-no-number-requires c κs = search needs
-
 returns : tie.Need-returns
 unfolding numberOf
 returns c = rw (eq-eqb _ _ (c .before .if1 .taken)) (c .no-number .ensures)
 
-no-number-requires-2 : tie.Need-no-number-requires-2
-no-number-requires-2 c κs = search needs
-
 returns-2 : tie.Need-returns-2
 unfolding numberOf
 returns-2 c = rw (ne-eqb _ _ (c .before .before .if1 .left), lt-ltb _ _ (c .before .if2 .taken)) (c .no-number2 .ensures)
-
-digits-of-requires : tie.Need-digits-of-requires
-digits-of-requires c κs = search needs
 
 returns-3 : tie.Need-returns-3
 unfolding numberOf
@@ -29,9 +20,9 @@ pub number-of-spec : {M : Type 1} → statement M
 number-of-spec =
     tie.close
     (tie.spec
-    no-number-requires
+    (λ c κs. search needs)
     returns
-    no-number-requires-2
+    (λ c κs. search needs)
     returns-2
-    digits-of-requires
+    (λ c κs. search needs)
     returns-3)

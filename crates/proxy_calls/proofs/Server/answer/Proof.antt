@@ -4,14 +4,11 @@ use borrow.Author.Needs.{needs}
 use Rattle.proxy_calls.proofs.Server.answer.Statement.{statement}
 use Rattle.proxy_calls.proofs.Server.answer.Tie as tie
 
-answer-requires : tie.Need-answer-requires
-answer-requires c κs = search needs
-
-same-length : tie.Need-same-length
-same-length c = search needs
-
 returns : tie.Need-returns
 returns c = let a = c .before .before .before .before .before .before .before .before .before .args in answers (a .self) (a .status) (endpointOf (a .bound) (a .port)) (a .out .now) (c .before .before .before .before .before .before .answer .ensures)
 
 pub answer-spec : {M : Type 1} → statement M
-answer-spec = tie.close (tie.spec answer-requires same-length returns)
+answer-spec = tie.close (tie.spec
+    (λ c κs. search needs)
+    (λ c. search needs)
+    returns)

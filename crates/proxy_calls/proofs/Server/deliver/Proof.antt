@@ -27,12 +27,6 @@ password-small c = search needs
 password-inside : (c : tie.Start) {n : ℕ} → n ≡ c .args .self .password .len → n ≤ length (c .args .self .password .bytes)
 password-inside c e = omega (arith, password-long c, password-small c)
 
-wide-requires : tie.Need-wide-requires
-wide-requires c κs = search needs
-
-wide-requires-2 : tie.Need-wide-requires-2
-wide-requires-2 c κs = search needs
-
 array-share-prefix-user-bytes : tie.Need-array-share-prefix-user-bytes
 array-share-prefix-user-bytes c = user-inside (c .before .before .before .before .before .before .before .before .before .before) (c .before .before .wide .ensures)
 
@@ -45,15 +39,6 @@ array-share-prefix-password-bytes c = password-inside (c .before .before .before
 slice-aggregate-receive-2 : tie.Need-slice-aggregate-receive-2
 slice-aggregate-receive-2 c = sym (length-take-le _ _ (password-inside (c .before .before .before .before .before .before .before .before .before .before .before .before) (c .before .before .before .wide2 .ensures)))
 
-slice-aggregate-receive-3 : tie.Need-slice-aggregate-receive-3
-slice-aggregate-receive-3 c = search needs
-
-receive-requires : tie.Need-receive-requires
-receive-requires c κs = search needs
-
-same-length : tie.Need-same-length
-same-length c = search needs
-
 returns : tie.Need-returns
 returns c =
     let a = c .before .before .before .before .before .before .before .before .before .before .before .before .before .before .before .before .before .before .before .before .args in
@@ -63,13 +48,13 @@ pub deliver-spec : {M : Type 1} → statement M
 deliver-spec =
     tie.close
     (tie.spec
-    wide-requires
-    wide-requires-2
+    (λ c κs. search needs)
+    (λ c κs. search needs)
     array-share-prefix-user-bytes
     slice-aggregate-receive
     array-share-prefix-password-bytes
     slice-aggregate-receive-2
-    slice-aggregate-receive-3
-    receive-requires
-    same-length
+    (λ c. search needs)
+    (λ c κs. search needs)
+    (λ c. search needs)
     returns)

@@ -11,17 +11,8 @@ use Rattle.proxy_calls.proofs.Server.destination.Tie as tie
 hold-long : (c : tie.Start) → length (c .args .self .hold) ≡ 1014
 hold-long c = search needs
 
-has-destination-requires : tie.Need-has-destination-requires
-has-destination-requires c κs = search needs
-
-no-target-requires : tie.Need-no-target-requires
-no-target-requires c κs = search needs
-
 returns : tie.Need-returns
 returns c = c .no-target .ensures ∙ no-destination (c .before .before .before .before .before .args .self) (c .before .before .has-destination .ensures) (not-true _ (c .before .if1 .taken))
-
-least-requires : tie.Need-least-requires
-least-requires c κs = search needs
 
 array-share-prefix-hold : tie.Need-array-share-prefix-hold
 array-share-prefix-hold c =
@@ -33,9 +24,6 @@ slice-aggregate-as-target c =
     let e = c .before .least .ensures in
     sym (length-take-le _ _ (omega (arith, hold-long (c .before .before .before .before .before .before))))
 
-as-target-requires : tie.Need-as-target-requires
-as-target-requires c κs = search needs
-
 returns-2 : tie.Need-returns-2
 returns-2 c =
     let start = c .before .before .before .before .before .before .before in
@@ -45,11 +33,11 @@ pub destination-spec : {M : Type 1} → statement M
 destination-spec =
     tie.close
     (tie.spec
-    has-destination-requires
-    no-target-requires
+    (λ c κs. search needs)
+    (λ c κs. search needs)
     returns
-    least-requires
+    (λ c κs. search needs)
     array-share-prefix-hold
     slice-aggregate-as-target
-    as-target-requires
+    (λ c κs. search needs)
     returns-2)

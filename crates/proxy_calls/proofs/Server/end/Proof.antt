@@ -3,11 +3,10 @@ use borrow.Author.Needs.{needs}
 use Rattle.proxy_calls.proofs.Server.end.Statement.{statement}
 use Rattle.proxy_calls.proofs.Server.end.Tie as tie
 
-end-requires : tie.Need-end-requires
-end-requires c κs = search needs
-
 returns : tie.Need-returns
 returns c = ends-as (c .before .before .before .before .before .args .self) (c .before .before .before .before .end .ensures)
 
 pub end-spec : {M : Type 1} → statement M
-end-spec = tie.close (tie.spec end-requires returns)
+end-spec = tie.close (tie.spec
+    (λ c κs. search needs)
+    returns)

@@ -12,17 +12,8 @@ use Rattle.route_calls.proofs.Route.bound.Tie as tie
 hold-long : (c : tie.Start) → length (c .args .self .hold) ≡ 261
 hold-long c = search needs
 
-is-open-requires : tie.Need-is-open-requires
-is-open-requires c κs = search needs
-
-unbound-requires : tie.Need-unbound-requires
-unbound-requires c κs = search needs
-
 returns : tie.Need-returns
 returns c = c .unbound .ensures ∙ not-bound (sessionIn (c .before .before .before .args .self)) (c .before .before .is-open .ensures) (not-true _ (c .before .if1 .taken))
-
-least-requires : tie.Need-least-requires
-least-requires c κs = search needs
 
 array-share-prefix-hold : tie.Need-array-share-prefix-hold
 array-share-prefix-hold c =
@@ -34,9 +25,6 @@ slice-aggregate-address c =
     let e = c .before .least .ensures in
     sym (length-take-le _ _ (omega (arith, hold-long (c .before .before .before .before .before .before))))
 
-address-requires : tie.Need-address-requires
-address-requires c κs = search needs
-
 returns-2 : tie.Need-returns-2
 returns-2 c =
     let start = c .before .before .before .before .before .before .before in
@@ -46,11 +34,11 @@ pub bound-spec : {M : Type 1} → statement M
 bound-spec =
     tie.close
     (tie.spec
-    is-open-requires
-    unbound-requires
+    (λ c κs. search needs)
+    (λ c κs. search needs)
     returns
-    least-requires
+    (λ c κs. search needs)
     array-share-prefix-hold
     slice-aggregate-address
-    address-requires
+    (λ c κs. search needs)
     returns-2)

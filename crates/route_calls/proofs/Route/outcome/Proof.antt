@@ -4,11 +4,10 @@ use borrow.Author.Needs.{needs}
 use Rattle.route_calls.proofs.Route.outcome.Statement.{statement}
 use Rattle.route_calls.proofs.Route.outcome.Tie as tie
 
-outcome-requires : tie.Need-outcome-requires
-outcome-requires c κs = search needs
-
 returns : tie.Need-returns
 returns c = let r = c .before .args .self in c .outcome .ensures (r .bound) (heldBytes (sessionIn r))
 
 pub outcome-spec : {M : Type 1} → statement M
-outcome-spec = tie.close (tie.spec outcome-requires returns)
+outcome-spec = tie.close (tie.spec
+    (λ c κs. search needs)
+    returns)

@@ -6,20 +6,8 @@ use borrow.Author.Needs.{needs}
 use Rattle.session.proofs.Session.bound_text.Statement.{statement}
 use Rattle.session.proofs.Session.bound_text.Tie as tie
 
-is-open-requires : tie.Need-is-open-requires
-is-open-requires c κs = search needs
-
 returns : tie.Need-returns
 returns c = (not-written (c .before .before .before .args .self) (c .before .is-open .ensures) (not-true _ (c .if1 .taken)) (c .before .before .before .args .text .now), λ o h. absurd (true≢false (sym (open-just (c .before .before .before .args .self) .1 o) ∙ sym (c .before .is-open .ensures) ∙ not-true _ (c .if1 .taken))))
-
-bound-requires : tie.Need-bound-requires
-bound-requires c κs = search needs
-
-put-bound-requires : tie.Need-put-bound-requires
-put-bound-requires c κs = search needs
-
-same-length : tie.Need-same-length
-same-length c = search needs
 
 returns-2 : tie.Need-returns-2
 returns-2 c = (written (c .before .before .before .before .before .before .before .before .args .self) (c .before .before .before .before .before .before .is-open .ensures) (not-false _ (c .before .before .before .before .before .if1 .left)) (c .before .before .before .before .before .before .before .before .args .text .now) (c .before .before .before .before .bound .ensures) (c .before .before .put-bound .ensures .0), λ o h. c .before .before .put-bound .ensures .1 h)
@@ -27,4 +15,10 @@ returns-2 c = (written (c .before .before .before .before .before .before .befor
 pub bound-text-spec : {M : Type 1} → statement M
 bound-text-spec =
     tie.close
-    (tie.spec is-open-requires returns bound-requires put-bound-requires same-length returns-2)
+    (tie.spec
+    (λ c κs. search needs)
+    returns
+    (λ c κs. search needs)
+    (λ c κs. search needs)
+    (λ c. search needs)
+    returns-2)

@@ -6,21 +6,6 @@ use borrow.Author.Needs.{needs}
 use Rattle.session.proofs.Session.deliver.Statement.{statement}
 use Rattle.session.proofs.Session.deliver.Tie as tie
 
-slice-aggregate-receive : tie.Need-slice-aggregate-receive
-slice-aggregate-receive c = search needs
-
-receive-requires : tie.Need-receive-requires
-receive-requires c κs = search needs
-
-send-requires : tie.Need-send-requires
-send-requires c κs = search needs
-
-wrapping-add-u64-requires : tie.Need-wrapping-add-u64-requires
-wrapping-add-u64-requires c κs = search needs
-
-same-length : tie.Need-same-length
-same-length c = search needs
-
 attempts-small : (c : tie.Start) → c .args .self .attempts < 2 ^ 64
 attempts-small c = search needs
 
@@ -35,4 +20,10 @@ returns c =
 
 pub deliver-spec : {M : Type 1} → statement M
 deliver-spec =
-    tie.close (tie.spec slice-aggregate-receive receive-requires send-requires wrapping-add-u64-requires same-length returns)
+    tie.close (tie.spec
+    (λ c. search needs)
+    (λ c κs. search needs)
+    (λ c κs. search needs)
+    (λ c κs. search needs)
+    (λ c. search needs)
+    returns)

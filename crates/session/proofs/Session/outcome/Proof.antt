@@ -3,11 +3,10 @@ use borrow.Author.Needs.{needs}
 use Rattle.session.proofs.Session.outcome.Statement.{statement}
 use Rattle.session.proofs.Session.outcome.Tie as tie
 
-outcome-requires : tie.Need-outcome-requires
-outcome-requires c κs = search needs
-
 returns : tie.Need-returns
 returns c = let s = c .before .args .self in c .outcome .ensures (s .bound) (heldBytes s)
 
 pub outcome-spec : {M : Type 1} → statement M
-outcome-spec = tie.close (tie.spec outcome-requires returns)
+outcome-spec = tie.close (tie.spec
+    (λ c κs. search needs)
+    returns)

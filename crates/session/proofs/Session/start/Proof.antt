@@ -9,9 +9,6 @@ use Rattle.session.proofs.Session.start.Tie as tie
 bytes-long : (c : tie.Start) → length (c .args .self .requests .bytes) ≡ 1024
 bytes-long c = search needs
 
-start-requires : tie.Need-start-requires
-start-requires c κs = search needs
-
 array-share-prefix-bytes : tie.Need-array-share-prefix-bytes
 array-share-prefix-bytes c =
     let start = c .before .before .before .before .before .before in
@@ -27,9 +24,6 @@ copy-requires c κs =
     let start = c .before .before .before .before .before .before .before in
     start-fits (start .args .self) (start .args .out .now) (c .before .before .start .ensures) (bytes-long start)
 
-same-length : tie.Need-same-length
-same-length c = search needs
-
 returns : tie.Need-returns
 returns c =
     let start = c .before .before .before .before .before .before .before .before .before .before .before .before in
@@ -40,9 +34,9 @@ pub start-spec : {M : Type 1} → statement M
 start-spec =
     tie.close
     (tie.spec
-    start-requires
+    (λ c κs. search needs)
     array-share-prefix-bytes
     slice-aggregate-copy
     copy-requires
-    same-length
+    (λ c. search needs)
     returns)

@@ -8,25 +8,10 @@ use borrow.Author.Needs.{needs}
 use Rattle.turns.proofs.Turn.next.Statement.{statement}
 use Rattle.turns.proofs.Turn.next.Tie as tie
 
-enum-known-stage : tie.Need-enum-known-stage
-enum-known-stage c = search needs
-
 read-requires : tie.Need-read-requires
 read-requires c κs =
     let p = c .before .before .before .before .before .pre in
     (p .0, omega (arith, ap stillDue (c .before .stage .given .1), p .1), p .2)
-
-enum-told : tie.Need-enum-told
-enum-told c = search needs
-
-last-requires : tie.Need-last-requires
-last-requires c κs = search needs
-
-enum-known-stage-2 : tie.Need-enum-known-stage-2
-enum-known-stage-2 c = search needs
-
-last-requires-2 : tie.Need-last-requires-2
-last-requires-2 c κs = search needs
 
 returns : tie.Need-returns
 returns c = rw (c .before .before .stage .given .1) (c .read .ensures)
@@ -45,12 +30,12 @@ pub next-spec : {M : Type 1} → statement M
 next-spec =
     tie.close
     (tie.spec
-    enum-known-stage
+    (λ c. search needs)
     read-requires
-    enum-told
-    last-requires
-    enum-known-stage-2
-    last-requires-2
+    (λ c. search needs)
+    (λ c κs. search needs)
+    (λ c. search needs)
+    (λ c κs. search needs)
     returns
     returns-2
     returns-3)

@@ -12,18 +12,6 @@ use Rattle.turns.proofs.Turn.read.Tie as tie
 both-fit : (c : tie.After-shared-slice-known2) → length (c .before .before .args .held .now) + length (c .before .before .args .piece .now) < 2 ^ 64
 both-fit c = search needs
 
-read-at-requires : tie.Need-read-at-requires
-read-at-requires c κs = search needs
-
-enum-told : tie.Need-enum-told
-enum-told c = search needs
-
-enum-known-n : tie.Need-enum-known-n
-enum-known-n c = search needs
-
-due-judged-requires : tie.Need-due-judged-requires
-due-judged-requires c κs = search needs
-
 add-place : tie.Need-add-place
 add-place c =
     let start = c .before .before .before .before .before .before .before .before in
@@ -47,9 +35,6 @@ add-t15 c = let p = c .before .before .before .before .before .before .before .b
 add-goes-on : tie.Need-add-goes-on
 add-goes-on c = record { fits = both-fit (c .before .before .before .before .before .before .before .before .before) }
 
-goes-on-requires : tie.Need-goes-on-requires
-goes-on-requires c κs = search needs
-
 returns : tie.Need-returns
 returns c =
     let a = c .before .before .before .before .before .args in
@@ -68,14 +53,14 @@ pub read-spec : {M : Type 1} → statement M
 read-spec =
     tie.close
     (tie.spec
-    read-at-requires
-    enum-told
-    enum-known-n
-    due-judged-requires
+    (λ c κs. search needs)
+    (λ c. search needs)
+    (λ c. search needs)
+    (λ c κs. search needs)
     add-place
     add-t14
     add-t15
     add-goes-on
-    goes-on-requires
+    (λ c κs. search needs)
     returns
     returns-2)
