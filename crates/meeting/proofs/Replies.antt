@@ -22,7 +22,7 @@ use Rattle.protocol.specs.Replies.{decide}
 use Rattle.protocol.specs.Grammar.{four, six, Word, method-00, method-02, accepted, connected, granted}
 use Rattle.protocol.specs.Machine.{Machine, has, sends, reads, run, machine}
 use Rattle.protocol.proofs.Words.{word-good, word-names}
-use Rattle.serving.specs.End.{methodReply, loginReply, reply5, reply4, success, dstIp}
+use Rattle.serving.specs.End.{methodReply, loginReply, reply5, reply4, dstIp}
 use Rattle.proxy.specs.Turns.{Given}
 use Rattle.talk.specs.Lawful.{Begins}
 use Rattle.meeting.specs.Ends.{seenOf, versionOf, allReplies, allRequests}

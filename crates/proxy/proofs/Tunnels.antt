@@ -40,7 +40,7 @@ use Rattle.proxy.specs.Served.{setupFor, outcomeBy, targetBy, handedOut,
 use Rattle.proxy.specs.Turns.{Tells, nowhere, SettingUp}
 use Rattle.talk.specs.Talk as talk
 use Rattle.talk.specs.Tunnel as side
-use Rattle.talk.specs.Tunnel.{Delivery, answerTo, joined, given, refusing, accepting}
+use Rattle.talk.specs.Tunnel.{Delivery, answerTo, given, refusing, accepting}
 use Rattle.talk.specs.Follow as like
 use Rattle.talk.proofs.Pieces.{pieces}
 use Rattle.talk.proofs.Follow as follow

@@ -1,14 +1,15 @@
 -- What the claims in numbers come to. Each of their fields is used here.
-use Prim.Native.Nat.{ℕ, _+_, _%_, _^_, _≤_}
+use Prim.Native.Nat.{ℕ, _+_, _%_, _^_, _<_}
 use native.Mathlib.Omega.{arith}
-use mathlib.Core.Path.{_≡_, refl, ap, sym, _∙_}
-use mathlib.Core.Logic.{_⊎_, inl, inr}
-use mathlib.Core.List.{List, [], _∷_}
+use mathlib.Core.Path.{_≡_, ap, _∙_}
+use mathlib.Core.Logic.{_⊎_, inl}
+use mathlib.Core.List.{List, []}
 use lib.ListN.{length, take, drop}
 use lib.Dec.{lit<}
 use Rattle.protocol.specs.declared.Answer.the-variants.{Refused}
 use Rattle.protocol.specs.declared.SocksError.{SocksError}
 use Rattle.protocol.specs.declared.Version.{Version}
+use Rattle.protocol.specs.Bytes.{BytePieces}
 use Rattle.protocol.specs.Bound as endpoints
 use Rattle.protocol.specs.Bound.{Endpoint}
 use Rattle.protocol.specs.Numbers.{number, status, answerNumber}
@@ -22,21 +23,26 @@ use Rattle.session.specs.declared.Prepared.{Prepared}
 use Rattle.session.specs.Session.{writeBound}
 use Rattle.socks.specs.Attempts.{attemptsOf}
 use Rattle.socks.specs.Turns.{noAddress}
-use Rattle.socks.proofs.Claims.{holds, holds-second}
+use Rattle.socks.proofs.Claims.{holds}
+use Rattle.proxy_calls.specs.Calls.{setUp}
 use Rattle.proxy.specs.Served.{targetBy, handedOut}
+use Rattle.raw_numbers.specs.Numbers.{truth}
 use Rattle.proxy.specs.Turns.{Given, nowhere}
 use Rattle.raw_session.specs.declared.RawOutcome.{RawOutcome}
 use Rattle.raw_session.specs.declared.RawSession.{RawSession}
-use Rattle.raw_session.specs.Raw.{sessionOf, rawOf, outcomeOf}
+use Rattle.raw_session.specs.Raw.{sessionOf, rawOf, outcomeOf, zeros}
 use Rattle.raw_told.specs.declared.RawAddress.{RawAddress}
 use Rattle.raw_told.specs.Told.{rawOutcome, addressOf, rawBound, rawAttempts}
 use Rattle.raw_openings.specs.Given.{preparedStep}
 use Rattle.raw_server.specs.declared.RawServer.{RawServer}
+use Rattle.raw_server.specs.Raw as servers
 use Rattle.raw_server.specs.Raw.{serverOf}
+use Rattle.raw_server.specs.declared.RawServed.{RawServed}
+use Rattle.raw_proxy.specs.Calls.{setUpServed}
 use Rattle.raw_asked.specs.declared.RawTarget.{RawTarget}
 use Rattle.raw_asked.specs.Asked.{targetOf}
 use Rattle.raw_tunnel.specs.Demand3.{rawStart, rawDeliver, Lent, tunnelOf, joinedOf, RawDemand3}
-use Rattle.raw_tunnel.specs.Turns.{rawEnd, RawTells, RawInTurn, RawPreparing}
+use Rattle.raw_tunnel.specs.Turns.{rawEnd, RawTells, RawInTurn, RawPreparing, Zeros}
 use Rattle.raw_tunnel.specs.Served as served
 use Rattle.raw_tunnel.specs.Served.{rawStanding, rawTarget, standingNumbers, RawServes}
 use Rattle.raw_tunnel.specs.ServedTurns as ends
@@ -107,6 +113,9 @@ module _ (p : Prepared) (cs : List Condition) (t : RawPreparing p cs) where
 
 -- ---- an end in numbers
 
+abbrev served-told : Tunnel RawServer → RawOutcome × (RawTarget × (List ℕ × (ℕ × List ℕ)))
+served-told t = (rawStanding (t .session), (rawTarget (t .session), (t .sent, (t .count, t .rest))))
+
 module _ (c : Setup) (r : RawServer) (ds : List Delivery) (d : RawServes c r ds) where
   pub served-as : (let bs = served.joinedOf ds in
       let m = plain.machine c bs in
@@ -114,6 +123,10 @@ module _ (c : Setup) (r : RawServer) (ds : List Delivery) (d : RawServes c r ds)
       (rawStanding (t .session) ≡ standingNumbers (m .standing)) × (rawTarget (t .session) ≡ targetOf (handedOut (targetBy (m .standing)))) × (t .sent ≡ m .sent)
       × (t .count ≡ plain.used c bs) × (t .rest ≡ drop (plain.used c bs) bs))
   served-as = (d .standing-as, d .destination-as, d .sent-as, d .count-as, d .rests-are ∙ ap (λ (n : ℕ). drop n (served.joinedOf ds)) (d .count-as))
+
+  -- another cut is served alike
+  pub served-anew : (ds′ : List Delivery) → BytePieces ds′ → Lent ds′ → served.joinedOf ds′ ≡ served.joinedOf ds → served-told (served.tunnelOf r ds′) ≡ served-told (served.tunnelOf r ds)
+  served-anew ds′ b l e = let a = d .alike ds′ b l e in λ i. (a .standings i, (a .targets i, (a .sent i, (a .count i, a .rest i))))
 
 abbrev seen : RawServer → RawOutcome × RawTarget
 seen r = (rawStanding r, rawTarget r)
@@ -147,3 +160,27 @@ module _ (r : RawServer) (out : List ℕ) (t : ends.RawInTurn r out) (piece : Li
 
   pub end-written-only : drop (served.receiver .deliver r piece out .sent) (served.receiver .deliver r piece out .output) ≡ drop (served.receiver .deliver r piece out .sent) out
   end-written-only = t .deliver-behind piece .bytes
+
+-- a set-up: without credentials too long it waits, with them it is refused with 5; it counts nothing
+module _ (authenticates : ℕ) (user password : List ℕ) (t : RawSettingUp authenticates user password) where
+  abbrev set : RawServed
+  set = setUpServed (setUp (truth authenticates) user password)
+
+  pub set-up-told : ((authenticates ≡ 0 → ⊥) × ((255 < length user) ⊎ (255 < length password)) → ⊥) → (set .used + set .sent ≡ 0) × (seen (set .server) ≡ (stands 0 0 0, targetOf nowhere))
+  set-up-told w = (omega (arith, t .used, t .sent), same-seen (t .waits (t .number .accepts .1 (w, tt))))
+
+  pub set-up-5 : (authenticates ≡ 0 → ⊥) → 255 < length user → (set .answer ≡ 5) × (seen (set .server) ≡ (stands 2 5 0, targetOf nowhere))
+  set-up-5 w h =
+      let q = holds (t .number) (lit< tt) (w, inl h) in
+      (q, same-seen (t .fails (λ z. absurd (omega (arith, q, z)))))
+
+-- ---- all zeros
+
+-- each call on such a session or end tells 16, and the text 17
+pub zeros-16 : Zeros → (piece out : List ℕ)
+    → (rawOutcome zeros .number ≡ 16) × (rawStart zeros out .answer ≡ 16) × (rawDeliver zeros piece out .answer ≡ 16) × (rawEnd zeros .answer ≡ 16) × (answerNumber (writeBound (sessionOf zeros) out .answer) ≡ 17)
+zeros-16 z piece out = (λ i. z .stands i .number, z .start out, z .deliver piece out, z .end, z .text out)
+
+pub end-zeros-16 : served.Zeros → (status : ℕ) (x : Endpoint) (piece out : List ℕ)
+    → (rawStanding servers.zeros .number ≡ 16) × (served.receiver .deliver servers.zeros piece out .answer ≡ 16) × (rawAnswer servers.zeros status x out .answer ≡ 16) × (ends.rawEnd servers.zeros .answer ≡ 16)
+end-zeros-16 z status x piece out = (λ i. z .stands i .number, z .deliver piece out, z .answer status x out, z .end)

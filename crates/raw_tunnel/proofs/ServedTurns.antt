@@ -2,17 +2,13 @@
 use Prim.Native.Nat.{ℕ, _≤_}
 use native.Mathlib.Omega.{arith}
 use mathlib.Core.Path.{_≡_, refl, ap, sym, _∙_}
-use mathlib.Core.Logic.{_↔_, _⊎_}
-use mathlib.Core.Bool.{Bool, true}
-use mathlib.Core.List.{List, [], _∷_}
+use mathlib.Core.Logic.{_↔_}
+use mathlib.Core.List.{List, []}
 use lib.ListN.{length}
 use Rattle.protocol.specs.declared.Answer.{Answer}
 use Rattle.protocol.specs.declared.Answer.the-variants.{Accepted, Refused}
 use Rattle.protocol.specs.declared.SocksError.{SocksError}
-use Rattle.protocol.specs.declared.Version.{Version}
-use Rattle.protocol.specs.Bound.{Endpoint}
 use Rattle.protocol.specs.Numbers.{answerNumber}
-use Rattle.protocol.specs.Opening.{Condition, _↣_, Answers}
 use Rattle.protocol.proofs.Limits.{number-accepted}
 use Rattle.serving.specs.declared.Stage.{Stage}
 use Rattle.serving.specs.declared.Stage.the-variants.{Awaiting, Asked, Open, Failed}
@@ -23,7 +19,7 @@ use Rattle.destinations.specs.declared.Target.{Target}
 use Rattle.proxy_calls.specs.declared.Server.{Server}
 use Rattle.proxy_calls.specs.Server.{destination}
 use Rattle.proxy_calls.specs.Calls.{Call, refusal, setUp, deliver, answer, end}
-use Rattle.proxy.specs.Turns.{Tells, nowhere, InTurn, SettingUp}
+use Rattle.proxy.specs.Turns.{Tells, nowhere}
 use Rattle.proxy.proofs.Turns.{in-turn, answer-used, end-counts}
 use Rattle.proxy.proofs.Tunnels.{setting-up}
 use Rattle.proxy.proofs.Answered.{all-answering}
@@ -33,8 +29,8 @@ use Rattle.raw_server.specs.declared.RawServer.{RawServer}
 use Rattle.raw_server.specs.Raw.{serverOf, rawOf, standingOf}
 use Rattle.raw_server.proofs.Back.{server-back}
 use Rattle.raw_asked.specs.Asked.{targetOf}
-use Rattle.raw_tunnel.specs.Served.{returned, rawStanding, rawTarget}
-use Rattle.raw_tunnel.specs.ServedTurns.{RawTells, stands, rawAnswer, rawEnd, Untouched, RawInTurn, RawTurns, StandsTold, RawSettingUp}
+use Rattle.raw_tunnel.specs.Served.{returned}
+use Rattle.raw_tunnel.specs.ServedTurns.{RawTells, stands, Untouched, RawTurns, StandsTold, RawSettingUp}
 use Rattle.raw_tunnel.proofs.Turns.{same-first, same-conditions, drop-last, started-just}
 use Rattle.raw_tunnel.proofs.Served.{waiting-told, failed-told}
 

@@ -33,7 +33,6 @@ use Rattle.raw_openings.specs.Given.{given5, given4, preparedStep}
 use Rattle.raw_told.specs.Told.{rawOutcome, addressOf, rawBound, rawAttempts}
 use Rattle.raw_tunnel.specs.Demand3 as raw
 use Rattle.raw_tunnel.specs.Demand3.{returned, Lent, RawDemand3, RawTunnelled, RawTunnelled5, RawTunnelled4}
-use Rattle.raw_tunnel.proofs.Turns.{enough}
 use Rattle.raw_tunnel.proofs.Carried.{Carried, carries, lends-as}
 use Rattle.talk.specs.Tunnel.{Delivery, answerTo, after}
 

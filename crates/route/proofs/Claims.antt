@@ -2,7 +2,7 @@
 use Prim.Native.Nat.{ℕ, _+_, _≤_, _<_}
 use native.Mathlib.Omega.{arith}
 use mathlib.Core.Path.{_≡_, ap, sym, _∙_}
-use mathlib.Core.List.{List, [], _++_}
+use mathlib.Core.List.{List, [], _∷_, _++_}
 use lib.ListN.{length, drop}
 use lib.Seq.{drop-append-seam}
 use lib.Dec.{lit<}
@@ -16,13 +16,18 @@ use Rattle.protocol.specs.Numbers.{answerNumber, outcomeNumber}
 use Rattle.protocol.specs.Bound.{Endpoint, addressOf}
 use Rattle.protocol.specs.Opening.{Opening, None}
 use Rattle.protocol.proofs.Limits.{number-accepted}
+use Rattle.session.specs.Session as session
+use Rattle.session.specs.Calls as session-calls
+use Rattle.socks.specs.InTwo.{inTwo}
 use Rattle.socks.specs.Turns.{noAddress}
+use Rattle.planning.specs.Plan.{preparedFor}
 use Rattle.socks.proofs.Claims.{holds, holds-second}
 use Rattle.routing.specs.Route as routing
-use Rattle.routing.specs.Route.{roomFor, openings, conditions, machines, usedInTurn, Sequences}
+use Rattle.routing.specs.Route.{Asked, roomFor, openings, conditions, machines, usedInTurn, Sequences}
 use Rattle.route_calls.specs.declared.Route.{Route}
 use Rattle.route_calls.specs.Calls.{Call, outcome, bound, opening, deliver, end}
-use Rattle.route.specs.Routed.{tunnelOf, joinedOf, attemptsInTurn, lending, Routed}
+use Rattle.route.specs.Routed as routed
+use Rattle.route.specs.Routed.{receiver, sessionReceiver, toldBy, tunnelOf, joinedOf, attemptsInTurn, lending, Routed, AsOne}
 use Rattle.route.specs.Turns.{Tells, InTurn, OpensInTurn}
 use Rattle.talk.specs.Tunnel.{Delivery, after, Tunnel}
 use Rattle.talk.specs.Lawful.{Begins}
@@ -107,3 +112,15 @@ module _ (a : routing.Route) (out : List ℕ) (t : OpensInTurn a out) where
 
   pub opened-only : length (opening a out .output) ≡ length out
   opened-only = t .behind .size
+
+-- ---- a route of one proxy
+
+-- call by call, from the opening to an end behind every delivery, what is told of it is told of that proxy's session
+module _ (a : routing.Route) (b : Asked) (out : List ℕ) (ds : List Delivery) (k : AsOne a b out ds) where
+  abbrev r : Route
+  r = opening a out .session
+
+  pub as-session : routed.told outcome (opening a out) ∷ (toldBy outcome (receiver 1024) r ds ++ (routed.told outcome (end (after (receiver 1024) r ds)) ∷ []))
+      ≡ (let c = inTwo (preparedFor b) out in
+      routed.told session.outcome c ∷ (toldBy session.outcome (sessionReceiver 1024) (c .session) ds ++ (routed.told session.outcome (session-calls.end (after (sessionReceiver 1024) (c .session) ds)) ∷ [])))
+  as-session = λ i. k .first i ∷ (k .deliveries i ++ (k .ending i ∷ []))

@@ -7,7 +7,6 @@ use lib.ListN.{length, length-map}
 use Rattle.protocol.specs.declared.Answer as code
 use Rattle.protocol.specs.declared.Answer.the-variants.{Accepted, Refused}
 use Rattle.protocol.specs.Opening.{Opening}
-use Rattle.session.specs.Calls as session
 use Rattle.protocol.proofs.Openings.{clash}
 use Rattle.routing.specs.Route as routing
 use Rattle.routing.specs.Route.{asked, openingFor, openings, roomFor, check}
@@ -16,7 +15,6 @@ use Rattle.routing.proofs.Checks.{Acceptable, accepted-has}
 use Rattle.routing.proofs.Rooms.{EachLimits, each-limits}
 use Rattle.route_calls.specs.declared.Route.{Route}
 use Rattle.route_calls.specs.Calls.{roomIn, openBy, opening}
-use Rattle.talk.specs.Talk as talk
 
 -- ---- an opening: 21, then 1, then its openings' own numbers
 

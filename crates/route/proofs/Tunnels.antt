@@ -32,7 +32,7 @@ use Rattle.route.proofs.Relays.{keptAt, standsAt, Onward, relayed-onwar
 use Rattle.talk.specs.Talk as talk
 use Rattle.talk.specs.Talk.{done, failed, waiting, ended, feed, reached}
 use Rattle.talk.specs.Tunnel as side
-use Rattle.talk.specs.Tunnel.{Delivery, answerTo, after, joined, given, refusing, accepting}
+use Rattle.talk.specs.Tunnel.{Delivery, answerTo, after, given, refusing, accepting}
 use Rattle.talk.specs.Follow as like
 use Rattle.talk.proofs.Feed.{Ready}
 use Rattle.talk.proofs.Pieces.{pieces}

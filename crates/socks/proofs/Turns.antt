@@ -40,7 +40,6 @@ use Rattle.session.proofs.Named as named
 use Rattle.session.proofs.Deliveries.{is-over}
 use Rattle.session.specs.Calls.{Call, starts, start, takes, deliver, end}
 use Rattle.socks.specs.Turns.{Tells, noAddress, Untouched, InTurn, AnyInTurn}
-use Rattle.talk.specs.Talk as talk
 use Rattle.talk.specs.Talk.{waiting, ended, done, failed, onward, isOver}
 use Rattle.talk.specs.Tunnel.{Behind}
 use Rattle.talk.proofs.Sends.{stand-at, none-sent}
