@@ -90,8 +90,7 @@ fn prepare_read(
 pub fn prepare_chosen(local_dns: bool, host: &[u8], port: Port, chosen: Lookup) -> Prepared
     ensures { λ r. ⌜ r ≡ prepare4 (record { localDns = «local_dns»; host = now (host .entry); port = port; records = recordsOf chosen }) ⌝ }
 {
-    let read = read_host(host);
-    prepare_read(local_dns, host, read, port, chosen)
+    prepare_read(local_dns, host, read_host(host), port, chosen)
 }
 
 // Prepares a session over SOCKS4: all is checked and kept, and nothing is sent before its start.

@@ -78,8 +78,7 @@ pub fn prepare_chosen(
 ) -> Prepared
     ensures { λ r. ⌜ r ≡ prepare5 (record { config = config; host = now (host .entry); port = port; user = now (user .entry); password = now (password .entry); records = recordsOf chosen }) ⌝ }
 {
-    let read = read_host(host);
-    prepare_read(config, host, read, port, user, password, chosen)
+    prepare_read(config, host, read_host(host), port, user, password, chosen)
 }
 
 // Prepares a session over SOCKS5: all is checked and kept, and nothing is sent before its start.
