@@ -8,11 +8,16 @@ ghost use Rattle.course.specs.Last.{lastOf};
 use cases::heads;
 use cases::heads::Head;
 use lines::Line;
+use lookup::Lookup;
 use protocol::Answer;
+use protocol::Family;
+use protocol::Record;
 use report::Closing;
 use socks::Prepared;
 use socks::Session;
 use socks::Started;
+use socks::v4;
+use socks::v5;
 use tally::Call;
 use tally::End;
 use tally::Tally;
@@ -31,6 +36,32 @@ fn output() -> [u8; OUTPUT]
     [0u8; OUTPUT]
 }
 
+fn serves(four: bool, family: Family) -> bool {
+    match family {
+        Family::Four => true,
+        Family::Six => !four,
+    }
+}
+
+// The first record that serves.
+fn choose(list: [Record; 8], count: usize, four: bool) -> Lookup
+    requires { ⌜ count ≤ 8 ⌝ }
+{
+    let mut i = 0;
+    while i < count {
+        let next = list[i];
+        let family = next.family;
+        if serves(four, family) {
+            return Lookup {
+                found: true,
+                first: next,
+            };
+        }
+        i += 1;
+    }
+    lookup::none_found()
+}
+
 fn prepare(s: &[u8], head: Head) -> Prepared
     requires { ⌜ (Ordered head) × ((head .count ≤ 8) × (head .size ≤ length (now s))) ⌝ }
 {
@@ -41,26 +72,24 @@ fn prepare(s: &[u8], head: Head) -> Prepared
     let host = 8;
     let host_end = head.host;
     if heads::byte_at(s, 0) == 4 {
-        return owned_records::prepare4(
+        return v4::prepare_chosen(
             config.local_dns,
             &s[host..host_end],
             port,
-            list,
-            head.count,
+            choose(list, head.count, true),
         );
     }
     let user = host_end + 2;
     let user_end = head.user;
     let password = user_end + 2;
     let password_end = head.password;
-    owned_records::prepare5(
+    v5::prepare_chosen(
         config,
         &s[host..host_end],
         port,
         &s[user..user_end],
         &s[password..password_end],
-        list,
-        head.count,
+        choose(list, head.count, false),
     )
 }
 

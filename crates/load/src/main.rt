@@ -7,12 +7,11 @@ ghost use Rattle.load.specs.Tally.{sumOf, added, isOpen, settled};
 ghost use Rattle.session.specs.Session.{outcome};
 ghost use Rattle.load.specs.Arguments.{bytesWord};
 use libc::STDOUT_FILENO;
+use lookup::none_found;
 use numerals::read;
 use numerals::read::Number;
-use protocol::Family;
 use protocol::Outcome;
 use protocol::Port;
-use protocol::Record;
 use protocol::SocksConfig;
 use socks::Prepared;
 use socks::Session;
@@ -108,26 +107,17 @@ fn output() -> [u8; 1024]
     [0u8; 1024]
 }
 
-// A list of no records: nothing is looked up.
-fn no_records() -> [Record; 8] {
-    let none = Record {
-        family: Family::Four,
-        address: [0u8; 16],
-    };
-    [none; 8]
-}
-
 // A session prepared for a name, with a user and a password of one byte if there are credentials.
 fn prepare(v5: bool, credentials: bool, name: &[u8]) -> Prepared {
     if !v5 {
-        return owned_records::prepare4(false, name, Port::Given(443), no_records(), 0);
+        return socks::v4::prepare_chosen(false, name, Port::Given(443), none_found());
     }
     let config = SocksConfig {
         proxy_auth: credentials,
         local_dns: false,
         optimistic: false,
     };
-    owned_records::prepare5(config, name, Port::Given(443), b"a", b"a", no_records(), 0)
+    socks::v5::prepare_chosen(config, name, Port::Given(443), b"a", b"a", none_found())
 }
 
 fn begin(v5: bool, credentials: bool, name: &[u8], out: &mut [u8]) -> Started

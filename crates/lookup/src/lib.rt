@@ -23,7 +23,7 @@ fn serves(four: bool, family: Family) -> bool
     }
 }
 
-fn none_found() -> Lookup
+pub fn none_found() -> Lookup
     ensures { λ r. ⌜ r ≡ noneFound ⌝ }
 {
     Lookup {

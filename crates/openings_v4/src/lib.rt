@@ -72,7 +72,7 @@ fn begin(
 }
 
 // Preparing with what was read of the host, and the record chosen.
-fn prepare_chosen(
+fn prepare_read(
     local_dns: bool,
     host: &[u8],
     read: AddressText,
@@ -86,6 +86,13 @@ fn prepare_chosen(
     openings::prepared(begun, bytes)
 }
 
+// `prepare` for a caller that has chosen the record, or has none.
+pub fn prepare_chosen(local_dns: bool, host: &[u8], port: Port, chosen: Lookup) -> Prepared
+    ensures { λ r. ⌜ r ≡ prepare4 (record { localDns = «local_dns»; host = now (host .entry); port = port; records = recordsOf chosen }) ⌝ }
+{
+    prepare_read(local_dns, host, read_host(host), port, chosen)
+}
+
 // Prepares a session over SOCKS4: all is checked and kept, and nothing is sent before its start.
 // Of the lookup's answers the first of family four is taken, and none is read unless a name is to be looked up.
 pub fn prepare(local_dns: bool, host: &[u8], port: Port, records: &[Record]) -> Prepared
@@ -94,5 +101,5 @@ pub fn prepare(local_dns: bool, host: &[u8], port: Port, records: &[Record]) -> 
     let read = read_host(host);
     let most = wanted4(local_dns, host, read);
     let chosen = choose(records, most, true);
-    prepare_chosen(local_dns, host, read, port, chosen)
+    prepare_read(local_dns, host, read, port, chosen)
 }

@@ -51,7 +51,7 @@ fn begin(
 }
 
 // Preparing with what was read of the host, and the record chosen.
-fn prepare_chosen(
+fn prepare_read(
     config: SocksConfig,
     host: &[u8],
     read: AddressText,
@@ -65,6 +65,20 @@ fn prepare_chosen(
     let mut bytes = [0u8; 1024];
     let begun = begin(&mut bytes, config, host, read, port, user, password, chosen);
     openings::prepared(begun, bytes)
+}
+
+// `prepare` for a caller that has chosen the record, or has none.
+pub fn prepare_chosen(
+    config: SocksConfig,
+    host: &[u8],
+    port: Port,
+    user: &[u8],
+    password: &[u8],
+    chosen: Lookup,
+) -> Prepared
+    ensures { λ r. ⌜ r ≡ prepare5 (record { config = config; host = now (host .entry); port = port; user = now (user .entry); password = now (password .entry); records = recordsOf chosen }) ⌝ }
+{
+    prepare_read(config, host, read_host(host), port, user, password, chosen)
 }
 
 // Prepares a session over SOCKS5: all is checked and kept, and nothing is sent before its start.
@@ -82,5 +96,5 @@ pub fn prepare(
     let read = read_host(host);
     let most = wanted5(config, host, read);
     let chosen = choose(records, most, false);
-    prepare_chosen(config, host, read, port, user, password, chosen)
+    prepare_read(config, host, read, port, user, password, chosen)
 }

@@ -13,6 +13,8 @@ use Rattle.protocol.specs.declared.Port.{Port}
 use Rattle.protocol.specs.declared.Answer as code
 use Rattle.protocol.specs.declared.Answer.the-variants.{Accepted, Refused}
 use Rattle.protocol.specs.Opening.{Opening}
+use Rattle.lookup.specs.declared.Lookup.{Lookup}
+use Rattle.lookup.specs.Chosen.{noneFound, recordsOf}
 use Rattle.session.specs.declared.Prepared.{Prepared}
 use Rattle.session.specs.Calls.{keptBy, preparedBy, prepare5, prepare4}
 use Rattle.wire.specs.Written.{overwrite}
@@ -41,11 +43,15 @@ part-as text f l {a} {n} p q =
 
 -- ---- what is asked of a proxy
 
-pub prepared5 : (p : Proxy) (text host : List ℕ) (port : Port) {user password : List ℕ} → user ≡ partOf text (p .user) → password ≡ partOf text (p .password) → {r : Prepared}
-    → r ≡ prepare5 (record { config = record { «proxy_auth» = p .«proxy_auth»; «local_dns» = false; optimistic = p .optimistic }; host = host; port = port; user = user; password = password; records = [] })
+pub prepared5 : (p : Proxy) (text host : List ℕ) (port : Port) {user password : List ℕ} → user ≡ partOf text (p .user) → password ≡ partOf text (p .password) → {l : Lookup} → l ≡ noneFound → {r : Prepared}
+    → r ≡ prepare5 (record { config = record { «proxy_auth» = p .«proxy_auth»; «local_dns» = false; optimistic = p .optimistic }; host = host; port = port; user = user; password = password; records = recordsOf l })
     → r ≡ preparedFor (askedBy Version.V5 (proxyOf text p) host port)
-prepared5 p text host port u w q =
-    q ∙ (λ i. prepare5 (record { config = record { «proxy_auth» = p .«proxy_auth»; «local_dns» = false; optimistic = p .optimistic }; host = host; port = port; user = u i; password = w i; records = [] }))
+prepared5 p text host port u w n q =
+    q ∙ (λ i. prepare5 (record { config = record { «proxy_auth» = p .«proxy_auth»; «local_dns» = false; optimistic = p .optimistic }; host = host; port = port; user = u i; password = w i; records = recordsOf (n i) }))
+
+pub prepared4 : (p : Proxy) (text host : List ℕ) (port : Port) {l : Lookup} → l ≡ noneFound → {r : Prepared}
+    → r ≡ prepare4 (record { localDns = false; host = host; port = port; records = recordsOf l }) → r ≡ preparedFor (askedBy Version.V4 (proxyOf text p) host port)
+prepared4 p text host port n q = q ∙ (λ i. prepare4 (record { localDns = false; host = host; port = port; records = recordsOf (n i) }))
 
 module _ (proxies : List Proxy) (eight : length proxies ≡ 8) (at count : ℕ) (l : at < count) (m : count ≤ 8) (none : Proxy) where
   from-here : drop at (take count proxies) ≡ getD proxies at none ∷ drop (suc at) (take count proxies)

@@ -6,12 +6,9 @@ ghost use Rattle.wire.specs.Written.{overwrite};
 ghost use Rattle.routing.specs.Route.{askedBy, askedOf};
 ghost use Rattle.protocol.specs.declared.Version.the-variants as Version;
 ghost use Rattle.planning.specs.Plan.{partOf, proxyOf, proxiesOf, preparedFor, IsPrepared, firstIn, keptHop, endsWith, Plans};
-use owned_records::prepare4;
-use owned_records::prepare5;
+use lookup::none_found;
 use protocol::Answer;
-use protocol::Family;
 use protocol::Port;
-use protocol::Record;
 use protocol::Reply;
 use protocol::SocksConfig;
 use protocol::Version;
@@ -49,15 +46,6 @@ fn part_of(text: &[u8], part: Part) -> &[u8]
     &text[from..end]
 }
 
-// No lookup: the list that is lent is empty.
-fn no_records() -> [Record; 8] {
-    let none = Record {
-        family: Family::Four,
-        address: [0u8; 16],
-    };
-    [none; 8]
-}
-
 fn prepare_v5(proxy: Proxy, text: &[u8], host: &[u8], port: Port) -> Prepared
     ensures { λ r. ⌜ r ≡ preparedFor (askedBy Version.V5 (proxyOf (now (text .entry)) proxy) (now (host .entry)) port) ⌝ }
 {
@@ -68,24 +56,23 @@ fn prepare_v5(proxy: Proxy, text: &[u8], host: &[u8], port: Port) -> Prepared
     };
     let user = proxy.user;
     let password = proxy.password;
-    prepare5(
+    openings_v5::prepare_chosen(
         config,
         host,
         port,
         part_of(text, user),
         part_of(text, password),
-        no_records(),
-        0,
+        none_found(),
     )
 }
 
-// What is asked of a proxy: its version's preparing.
+// What is asked of a proxy: its version's preparing, with no record of a lookup.
 fn prepare_for(proxy: Proxy, text: &[u8], host: &[u8], port: Port) -> Prepared
     ensures { λ r. ⌜ r ≡ preparedFor (askedBy (proxy .version) (proxyOf (now (text .entry)) proxy) (now (host .entry)) port) ⌝ }
 {
     let version = proxy.version;
     match version {
-        Version::V4 => prepare4(false, host, port, no_records(), 0),
+        Version::V4 => openings_v4::prepare_chosen(false, host, port, none_found()),
         Version::V5 => prepare_v5(proxy, text, host, port),
     }
 }

@@ -1,11 +1,9 @@
 -- What preparing makes of numbers and bytes.
 use Prim.Native.Nat.{ℕ}
-use mathlib.Core.Path.{_≡_, refl, ap, _∙_}
-use mathlib.Core.Bool.{Bool, true, false, cond}
+use mathlib.Core.Path.{_≡_, ap, _∙_}
+use mathlib.Core.Bool.{Bool, true, false}
 use mathlib.Core.List.{List}
-use lib.ListN.{take, replicate}
 use Rattle.protocol.specs.declared.Port.{Port}
-use Rattle.protocol.specs.declared.Record.{Record}
 use Rattle.protocol.specs.declared.SocksConfig.{SocksConfig}
 use Rattle.protocol.specs.Opening.{firstRecord, firstFour}
 use Rattle.lookup.specs.declared.Lookup.{Lookup}
@@ -26,30 +24,22 @@ config-as c a l o = λ i. record { «proxy_auth» = a i; «local_dns» = l i; op
 
 -- of the list of records the first that serves is all that is asked
 
-taken : (found : Bool) (first : Record) → take (cond found 1 0) (replicate 8 first) ≡ recordsOf (record { found = found; first = first })
-taken true first = refl
-taken false first = refl
+pub prepared5 : (c : RawConfig) (host : List ℕ) (port : ℕ) (user password records : List ℕ) {l : Lookup} {cf : SocksConfig} {pt : Port} {p : Prepared} {r : RawStep}
+    → l ≡ chosenOf false noneFound (recordsIn records) → cf ≡ configOf c → pt ≡ portOf port
+    → p ≡ prepare5 (record { config = cf; host = host; port = pt; user = user; password = password; records = recordsOf l }) → r ≡ preparedStep p
+    → r ≡ preparedStep (prepare5 (given5 c host port user password records))
+prepared5 c host port user password records {l} {cf} {pt} {p} {r} el ec ep e er =
+    let first : firstRecord (recordsOf l) ≡ firstRecord (recordsIn records) = ap (λ (k : Lookup). firstRecord (recordsOf k)) el ∙ first-chosen (recordsIn records) in
+    let h : p ≡ prepare5 (record { config = cf; host = host; port = pt; user = user; password = password; records = recordsIn records }) = e ∙ by-first5 cf host pt user password (recordsIn records) (recordsOf l) (λ _. first) in
+    let g : p ≡ prepare5 (given5 c host port user password records) = h ∙ (λ i. prepare5 (record { config = ec i; host = host; port = ep i; user = user; password = password; records = recordsIn records })) in
+    er ∙ ap preparedStep g
 
-module _ (l : Lookup) (n : ℕ) (en : n ≡ cond (l .found) 1 0) where
-  list-as : take n (replicate 8 (l .first)) ≡ recordsOf l
-  list-as = ap (λ (k : ℕ). take k (replicate 8 (l .first))) en ∙ taken (l .found) (l .first)
-
-  pub prepared5 : (c : RawConfig) (host : List ℕ) (port : ℕ) (user password records : List ℕ) {cf : SocksConfig} {pt : Port} {p : Prepared} {r : RawStep}
-      → l ≡ chosenOf false noneFound (recordsIn records) → cf ≡ configOf c → pt ≡ portOf port
-      → p ≡ prepare5 (record { config = cf; host = host; port = pt; user = user; password = password; records = take n (replicate 8 (l .first)) }) → r ≡ preparedStep p
-      → r ≡ preparedStep (prepare5 (given5 c host port user password records))
-  prepared5 c host port user password records {cf} {pt} {p} {r} el ec ep e er =
-      let first : firstRecord (take n (replicate 8 (l .first))) ≡ firstRecord (recordsIn records) = ap firstRecord list-as ∙ ap (λ (k : Lookup). firstRecord (recordsOf k)) el ∙ first-chosen (recordsIn records) in
-      let h : p ≡ prepare5 (record { config = cf; host = host; port = pt; user = user; password = password; records = recordsIn records }) = e ∙ by-first5 cf host pt user password (recordsIn records) (take n (replicate 8 (l .first))) (λ _. first) in
-      let g : p ≡ prepare5 (given5 c host port user password records) = h ∙ (λ i. prepare5 (record { config = ec i; host = host; port = ep i; user = user; password = password; records = recordsIn records })) in
-      er ∙ ap preparedStep g
-
-  pub prepared4 : (localDns : ℕ) (host : List ℕ) (port : ℕ) (records : List ℕ) {t : Bool} {pt : Port} {p : Prepared} {r : RawStep}
-      → l ≡ chosenOf true noneFound (recordsIn records) → t ≡ truth localDns → pt ≡ portOf port
-      → p ≡ prepare4 (record { localDns = t; host = host; port = pt; records = take n (replicate 8 (l .first)) }) → r ≡ preparedStep p
-      → r ≡ preparedStep (prepare4 (given4 localDns host port records))
-  prepared4 localDns host port records {t} {pt} {p} {r} el et ep e er =
-      let first : firstFour (take n (replicate 8 (l .first))) ≡ firstFour (recordsIn records) = ap firstFour list-as ∙ ap (λ (k : Lookup). firstFour (recordsOf k)) el ∙ four-chosen (recordsIn records) in
-      let h : p ≡ prepare4 (record { localDns = t; host = host; port = pt; records = recordsIn records }) = e ∙ by-first4 t host pt (recordsIn records) (take n (replicate 8 (l .first))) (λ _. first) in
-      let g : p ≡ prepare4 (given4 localDns host port records) = h ∙ (λ i. prepare4 (record { localDns = et i; host = host; port = ep i; records = recordsIn records })) in
-      er ∙ ap preparedStep g
+pub prepared4 : (localDns : ℕ) (host : List ℕ) (port : ℕ) (records : List ℕ) {l : Lookup} {t : Bool} {pt : Port} {p : Prepared} {r : RawStep}
+    → l ≡ chosenOf true noneFound (recordsIn records) → t ≡ truth localDns → pt ≡ portOf port
+    → p ≡ prepare4 (record { localDns = t; host = host; port = pt; records = recordsOf l }) → r ≡ preparedStep p
+    → r ≡ preparedStep (prepare4 (given4 localDns host port records))
+prepared4 localDns host port records {l} {t} {pt} {p} {r} el et ep e er =
+    let first : firstFour (recordsOf l) ≡ firstFour (recordsIn records) = ap (λ (k : Lookup). firstFour (recordsOf k)) el ∙ four-chosen (recordsIn records) in
+    let h : p ≡ prepare4 (record { localDns = t; host = host; port = pt; records = recordsIn records }) = e ∙ by-first4 t host pt (recordsIn records) (recordsOf l) (λ _. first) in
+    let g : p ≡ prepare4 (given4 localDns host port records) = h ∙ (λ i. prepare4 (record { localDns = et i; host = host; port = ep i; records = recordsIn records })) in
+    er ∙ ap preparedStep g

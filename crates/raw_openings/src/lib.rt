@@ -1,6 +1,5 @@
 // Preparing for programs in C and Rust: the options, the port and the records as numbers and bytes.
 ghost use mathlib.Core.Path.{_≡_};
-ghost use mathlib.Core.Bool.{cond};
 ghost use Rattle.session.specs.Calls.{prepare5, prepare4};
 ghost use Rattle.raw_openings.specs.Given.{configOf, given5, given4, preparedStep};
 use protocol::SocksConfig;
@@ -37,13 +36,6 @@ fn prepared_step(prepared: Prepared) -> RawStep
     step(answer, session, 0, 0)
 }
 
-// How many records were found.
-fn count(found: bool) -> usize
-    ensures { λ r. ⌜ r ≡ cond found 1 0 ⌝ }
-{
-    if found { 1 } else { 0 }
-}
-
 // Prepares a session over SOCKS5. A port above 65535 is none. `records` is an array of records, of 17 bytes each.
 pub fn prepare5(
     config: RawConfig,
@@ -55,16 +47,14 @@ pub fn prepare5(
 ) -> RawStep
     ensures { λ r. ⌜ r ≡ preparedStep (prepare5 (given5 config (now (host .entry)) port (now (user .entry)) (now (password .entry)) (now (records .entry)))) ⌝ }
 {
-    let lookup = found(records, false);
-    let first = lookup.first;
-    prepared_step(owned_records::prepare5(
+    let chosen = found(records, false);
+    prepared_step(openings_v5::prepare_chosen(
         config_of(config),
         host,
         port_of(port),
         user,
         password,
-        [first; 8],
-        count(lookup.found),
+        chosen,
     ))
 }
 
@@ -72,13 +62,6 @@ pub fn prepare5(
 pub fn prepare4(local_dns: u8, host: &[u8], port: u32, records: &[u8]) -> RawStep
     ensures { λ r. ⌜ r ≡ preparedStep (prepare4 (given4 «local_dns» (now (host .entry)) port (now (records .entry)))) ⌝ }
 {
-    let lookup = found(records, true);
-    let first = lookup.first;
-    prepared_step(owned_records::prepare4(
-        truth(local_dns),
-        host,
-        port_of(port),
-        [first; 8],
-        count(lookup.found),
-    ))
+    let chosen = found(records, true);
+    prepared_step(openings_v4::prepare_chosen(truth(local_dns), host, port_of(port), chosen))
 }

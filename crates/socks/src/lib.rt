@@ -4,6 +4,7 @@ pub mod v4;
 pub mod v5;
 
 pub use bound_text::Written;
+pub use lookup::Lookup;
 pub use sending::Lengths;
 pub use sending::Requests;
 pub use sending::Stage;

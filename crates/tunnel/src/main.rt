@@ -1,15 +1,15 @@
 // Delivers standard input to a plain v5 session for 192.0.2.7, port 443, and says what it sent, how it ended and what was left.
 use libc::STDOUT_FILENO;
-use protocol::Family;
+use lookup::none_found;
 use protocol::Outcome;
 use protocol::Port;
-use protocol::Record;
 use protocol::SocksConfig;
 use socks::Delivered;
 use socks::Prepared;
 use socks::Session;
 use socks::Started;
 use socks::errors;
+use socks::v5;
 ghost use mathlib.Core.Path.{_≡_};
 ghost use Prim.Native.Nat.{_+_, _%_, _^_, _≤_};
 ghost use lib.ListN.{length};
@@ -67,18 +67,13 @@ fn prepare() -> Prepared {
         local_dns: false,
         optimistic: false,
     };
-    let none = Record {
-        family: Family::Four,
-        address: [0u8; 16],
-    };
-    owned_records::prepare5(
+    v5::prepare_chosen(
         config,
         b"192.0.2.7",
         Port::Given(443),
         b"",
         b"",
-        [none; 8],
-        0,
+        none_found(),
     )
 }
 

@@ -1,9 +1,12 @@
+use Rattle.planning.proofs.Laws.{prepared4}
 use borrow.Author.Needs.{needs}
 use Rattle.planning.proofs.prepare_for.Statement.{statement}
 use Rattle.planning.proofs.prepare_for.Tie as tie
 
 returns : tie.Need-returns
-returns c = rw (c .before .before .enum-told .given .1) (c .prepare4 .ensures)
+returns c =
+    let a = c .before .before .before .before .before .before .args in
+    rw (c .before .before .enum-told .given .1) (prepared4 (a .proxy) (a .text .now) (a .host .now) (a .port) (c .before .none-found .ensures) (c .prepare-chosen .ensures))
 
 returns-2 : tie.Need-returns-2
 returns-2 c = rw (c .before .enum-told2 .given .1) (c .prepare-v5 .ensures)

@@ -6,7 +6,7 @@ use Rattle.planning.proofs.prepare_v5.Tie as tie
 returns : tie.Need-returns
 returns c =
     let a = c .before .before .before .before .before .before .before .before .args in
-    prepared5 (a .proxy) (a .text .now) (a .host .now) (a .port) (c .before .before .before .part-of .ensures) (c .before .before .part-of2 .ensures) (c .prepare5 .ensures)
+    prepared5 (a .proxy) (a .text .now) (a .host .now) (a .port) (c .before .before .before .part-of .ensures) (c .before .before .part-of2 .ensures) (c .before .none-found .ensures) (c .prepare-chosen .ensures)
 
 pub prepare-v5-spec : {M : Type 1} → statement M
 prepare-v5-spec =
