@@ -2,14 +2,14 @@
 use Prim.Native.Nat.{ℕ, _-_, _≤_, zero-le}
 use native.Mathlib.Nat.{le-trans}
 use native.Mathlib.Omega.{arith}
-use mathlib.Core.Path.{refl}
+use mathlib.Core.Path.{_≡_, refl, ap}
 use mathlib.Core.Bool.{Bool, true, false, cond}
 use mathlib.Core.List.{List, _++_}
 use lib.ListN.{length, take, drop, length-append, length-drop}
 use lib.Seq.{drop-append-seam}
 use Rattle.talk.specs.Decision.{Decision, undecided, decided, good, bad}
 use Rattle.talk.specs.Talk.{Side, Talk, TalkOf, stop, send, await, Session, waiting, Fed, deciding, feed}
-use Rattle.talk.specs.Tunnel.{Behind}
+use Rattle.talk.specs.Tunnel.{Answer, Behind}
 
 -- at most so many bytes
 abbrev pub Sends : {S R E : Type 0} → ℕ → Talk S R E → Type 0
@@ -48,3 +48,7 @@ stand-at a s used bs out h = record { bytes = drop-append-seam bs (drop (length 
 -- and a call that sent nothing and left the output
 pub none-sent : {X A : Type 0} (a : A) (s : X) (used : ℕ) (out : List ℕ) → Behind (record { answer = a; session = s; used = used; sent = 0; output = out }) out
 none-sent a s used out = record { bytes = refl; size = refl }
+
+-- so the byte behind what was sent is the one that was lent
+pub next-byte : {X A : Type 0} (c : Answer X A) (out : List ℕ) → Behind c out → take 1 (drop (c .sent) (c .output)) ≡ take 1 (drop (c .sent) out)
+next-byte c out b = ap (take 1) (b .bytes)
