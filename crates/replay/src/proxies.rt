@@ -1,0 +1,179 @@
+// Cases of the proxy's end: one that is set up, calls of the one that comes back, and the destination that it handed out.
+use crate::tally;
+use crate::tally::Tally;
+use cases::lent_at;
+use input::places::byte_at;
+use input::places::number_at;
+use input::places::part;
+use input::places::past;
+use input::places::text_at;
+use input::places::text_end;
+use protocol::AddressKind;
+use proxy::Outcome;
+use proxy::Server;
+use proxy::SetUp;
+use proxy::Target;
+use report::State;
+use report::Writer;
+use report::put_byte;
+use report::put_hex;
+use report::put_number;
+
+// The output that a delivery asks.
+const ROOM: usize = 262;
+
+// target: the destination that was handed out; before, one of no bytes.
+struct Course {
+    server: Server,
+    target: Target,
+    tally: Tally,
+}
+
+fn no_target() -> Target {
+    Target {
+        kind: AddressKind::Ipv4,
+        len: 0,
+        bytes: [0u8; 1014],
+        port: 0,
+    }
+}
+
+fn set_up(s: &[u8]) -> SetUp {
+    let user = past(s, 1, 1);
+    proxy::set_up(
+        cases::has(byte_at(s, 1), 1),
+        text_at(s, user),
+        text_at(s, text_end(s, user)),
+    )
+}
+
+// The destination that was handed out last, after a delivery.
+fn handed_out(server: Server, before: Target) -> Target {
+    match server.outcome() {
+        Outcome::Waiting => before,
+        Outcome::Asked => server.destination(),
+        Outcome::Open => before,
+        Outcome::Failed(error) => before,
+    }
+}
+
+fn deliver(course: Course, s: &[u8], at: usize, kept: &mut [u8], text: &mut [u8]) -> Course {
+    let before = course.server;
+    let tally = course.tally;
+    let lent = lent_at(s, past(s, at, 1));
+    let piece = text_at(s, past(s, at, 3));
+    let delivered = before.deliver(piece, tally::output(kept, lent));
+    let answer = delivered.answer;
+    let server = delivered.server;
+    let used = delivered.used;
+    let told = tally::put_delivered(tally, text, answer, used, delivered.sent);
+    let next = tally::keep_sent(told, kept, delivered.sent);
+    Course {
+        server,
+        target: handed_out(server, course.target),
+        tally: tally::keep_rest(next, kept, lent, proxy::rest(piece, used)),
+    }
+}
+
+// The caller's answer.
+fn answer(course: Course, s: &[u8], at: usize, kept: &mut [u8], text: &mut [u8]) -> Course {
+    let before = course.server;
+    let target = course.target;
+    let tally = course.tally;
+    let status = byte_at(s, past(s, at, 3));
+    let bound = cases::record_at(s, past(s, at, 4));
+    let port = number_at(s, past(s, at, 21));
+    let out = tally::output(kept, lent_at(s, past(s, at, 1)));
+    let answered = before.answer(status, bound, port, out);
+    let answer = answered.answer;
+    let server = answered.server;
+    let told = tally::put_sent(tally, text, answer, answered.sent);
+    Course {
+        server,
+        target,
+        tally: tally::keep_sent(told, kept, answered.sent),
+    }
+}
+
+fn end(course: Course, text: &mut [u8]) -> Course {
+    let before = course.server;
+    let target = course.target;
+    let tally = course.tally;
+    let ended = before.end();
+    let answer = ended.answer;
+    let server = ended.server;
+    Course {
+        server,
+        target,
+        tally: tally::put_answer(tally, text, answer),
+    }
+}
+
+fn take_call(course: Course, s: &[u8], at: usize, kept: &mut [u8], text: &mut [u8]) -> Course {
+    let call = byte_at(s, at);
+    if call == b'd' {
+        return deliver(course, s, at, kept, text);
+    }
+    if call == b'a' {
+        return answer(course, s, at, kept, text);
+    }
+    end(course, text)
+}
+
+fn take_calls(first: Course, s: &[u8], at: usize, kept: &mut [u8], text: &mut [u8]) -> Course {
+    let mut course = first;
+    let mut next = past(s, at, 2);
+    for i in 0..number_at(s, at) {
+        course = take_call(course, s, next, kept, text);
+        next = cases::call_end(s, next, b'P');
+    }
+    course
+}
+
+fn state_of(outcome: Outcome) -> State {
+    match outcome {
+        Outcome::Waiting => State::Waiting,
+        Outcome::Asked => State::Asked,
+        Outcome::Open => State::Open,
+        Outcome::Failed(error) => State::Failed(error),
+    }
+}
+
+// `4`, `6`, or `n` for a name.
+fn kind_byte(kind: AddressKind) -> u8 {
+    match kind {
+        AddressKind::Ipv4 => b'4',
+        AddressKind::Ipv6 => b'6',
+        AddressKind::Domain => b'n',
+    }
+}
+
+// A destination, or `-` if none was handed out, with a space before it.
+fn put_destination(start: Writer, text: &mut [u8], target: Target) -> Writer {
+    let writer = put_byte(start, text, b' ');
+    if target.len == 0 {
+        return put_byte(writer, text, b'-');
+    }
+    let kind = target.kind;
+    let bytes = target.bytes;
+    let told = put_byte(put_byte(writer, text, kind_byte(kind)), text, b':');
+    let next = put_hex(told, text, part(&bytes, 0, target.len));
+    put_number(put_byte(next, text, b':'), text, target.port as u64)
+}
+
+pub fn run(s: &[u8], writer: Writer, kept: &mut [u8], text: &mut [u8]) -> Writer {
+    let set = set_up(s);
+    let answer = set.answer;
+    let server = set.server;
+    let tally = tally::begin(writer, text, answer, ROOM);
+    let first = Course {
+        server,
+        target: no_target(),
+        tally,
+    };
+    let course = take_calls(first, s, cases::calls_at(s), kept, text);
+    let last = course.server;
+    let told = course.tally;
+    let line = tally::finish(told, text, kept, state_of(last.outcome()));
+    put_destination(line, text, course.target)
+}

@@ -1,0 +1,153 @@
+// Cases of sessions: an opening that is prepared, and calls of the session that comes back.
+use crate::tally;
+use crate::tally::Tally;
+use cases::Opening;
+use cases::lent_at;
+use input::places::byte_at;
+use input::places::part;
+use input::places::past;
+use input::places::text_at;
+use protocol::Outcome;
+use report::State;
+use report::Writer;
+use socks::Prepared;
+use socks::Session;
+
+struct Course {
+    session: Session,
+    tally: Tally,
+}
+
+fn prepare(s: &[u8], opening: Opening) -> Prepared {
+    let config = opening.config;
+    let port = opening.port;
+    let host = text_at(s, opening.host);
+    let list = cases::records_at(s, opening.records);
+    let count = byte_at(s, opening.records) as usize;
+    if opening.version == 4 {
+        return owned_records::prepare4(config.local_dns, host, port, list, count);
+    }
+    let user = text_at(s, opening.user);
+    let password = text_at(s, opening.password);
+    owned_records::prepare5(config, host, port, user, password, list, count)
+}
+
+// The output that a delivery asks.
+fn room_of(version: u8) -> usize {
+    if version == 4 {
+        return 262;
+    }
+    778
+}
+
+fn start(course: Course, s: &[u8], at: usize, kept: &mut [u8], text: &mut [u8]) -> Course {
+    let before = course.session;
+    let tally = course.tally;
+    let lent = lent_at(s, past(s, at, 1));
+    let started = before.start(tally::output(kept, lent));
+    let answer = started.answer;
+    let session = started.session;
+    let told = tally::put_sent(tally, text, answer, started.sent);
+    Course {
+        session,
+        tally: tally::keep_sent(told, kept, started.sent),
+    }
+}
+
+fn deliver(course: Course, s: &[u8], at: usize, kept: &mut [u8], text: &mut [u8]) -> Course {
+    let before = course.session;
+    let tally = course.tally;
+    let lent = lent_at(s, past(s, at, 1));
+    let piece = text_at(s, past(s, at, 3));
+    let delivered = before.deliver(piece, tally::output(kept, lent));
+    let answer = delivered.answer;
+    let session = delivered.session;
+    let used = delivered.used;
+    let told = tally::put_delivered(tally, text, answer, used, delivered.sent);
+    let next = tally::keep_sent(told, kept, delivered.sent);
+    Course {
+        session,
+        tally: tally::keep_rest(next, kept, lent, socks::rest(piece, used)),
+    }
+}
+
+fn end(course: Course, text: &mut [u8]) -> Course {
+    let before = course.session;
+    let tally = course.tally;
+    let ended = before.end();
+    let answer = ended.answer;
+    let session = ended.session;
+    Course {
+        session,
+        tally: tally::put_answer(tally, text, answer),
+    }
+}
+
+// The bound address as text. The session stays.
+fn put_bound(session: Session, tally: Tally, lent: usize, kept: &mut [u8], text: &mut [u8]) -> Tally {
+    let written = session.bound_text(tally::output(kept, lent));
+    let answer = written.answer;
+    let told = tally::put_answer(tally, text, answer);
+    tally::put_text(told, text, part(kept, 0, written.len))
+}
+
+// A call that leaves the session as it is: its text or its attempts.
+fn ask(course: Course, s: &[u8], at: usize, kept: &mut [u8], text: &mut [u8]) -> Course {
+    let session = course.session;
+    let tally = course.tally;
+    if byte_at(s, at) == b'b' {
+        return Course {
+            session,
+            tally: put_bound(session, tally, lent_at(s, past(s, at, 1)), kept, text),
+        };
+    }
+    Course {
+        session,
+        tally: tally::put_entry(tally, text, session.attempts()),
+    }
+}
+
+fn take_call(course: Course, s: &[u8], at: usize, kept: &mut [u8], text: &mut [u8]) -> Course {
+    let call = byte_at(s, at);
+    if call == b's' {
+        return start(course, s, at, kept, text);
+    }
+    if call == b'd' {
+        return deliver(course, s, at, kept, text);
+    }
+    if call == b'e' {
+        return end(course, text);
+    }
+    ask(course, s, at, kept, text)
+}
+
+fn take_calls(first: Course, s: &[u8], at: usize, kept: &mut [u8], text: &mut [u8]) -> Course {
+    let mut course = first;
+    let mut next = past(s, at, 2);
+    for i in 0..input::places::number_at(s, at) {
+        course = take_call(course, s, next, kept, text);
+        next = cases::call_end(s, next, b'S');
+    }
+    course
+}
+
+// How a session or a route stands.
+pub fn state_of(outcome: Outcome) -> State {
+    match outcome {
+        Outcome::Waiting => State::Waiting,
+        Outcome::Open => State::Open,
+        Outcome::Failed(error) => State::Failed(error),
+    }
+}
+
+pub fn run(s: &[u8], writer: Writer, kept: &mut [u8], text: &mut [u8]) -> Writer {
+    let opening = cases::opening_at(s, 1);
+    let prepared = prepare(s, opening);
+    let answer = prepared.answer;
+    let session = prepared.session;
+    let tally = tally::begin(writer, text, answer, room_of(opening.version));
+    let course = take_calls(Course { session, tally }, s, cases::calls_at(s), kept, text);
+    let last = course.session;
+    let told = course.tally;
+    tally::finish(told, text, kept, state_of(last.outcome()))
+}
