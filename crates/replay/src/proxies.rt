@@ -1,5 +1,6 @@
 // Cases of the proxy's end: one that is set up, calls of the one that comes back, and the destination that it handed out.
 use crate::tally;
+use crate::tally::Call;
 use crate::tally::Tally;
 use cases::lent_at;
 use input::places::byte_at;
@@ -59,19 +60,23 @@ fn handed_out(server: Server, before: Target) -> Target {
 
 fn deliver(course: Course, s: &[u8], at: usize, kept: &mut [u8], text: &mut [u8]) -> Course {
     let before = course.server;
+    let target = course.target;
     let tally = course.tally;
     let lent = lent_at(s, past(s, at, 1));
     let piece = text_at(s, past(s, at, 3));
     let delivered = before.deliver(piece, tally::output(kept, lent));
     let answer = delivered.answer;
     let server = delivered.server;
-    let used = delivered.used;
-    let told = tally::put_delivered(tally, text, answer, used, delivered.sent);
-    let next = tally::keep_sent(told, kept, delivered.sent);
+    let call = Call {
+        lent,
+        answer,
+        used: delivered.used,
+        sent: delivered.sent,
+    };
     Course {
         server,
-        target: handed_out(server, course.target),
-        tally: tally::keep_rest(next, kept, lent, proxy::rest(piece, used)),
+        target: handed_out(server, target),
+        tally: tally::take_delivery(tally, call, piece, kept, text),
     }
 }
 
@@ -83,15 +88,20 @@ fn answer(course: Course, s: &[u8], at: usize, kept: &mut [u8], text: &mut [u8])
     let status = byte_at(s, past(s, at, 3));
     let bound = cases::record_at(s, past(s, at, 4));
     let port = number_at(s, past(s, at, 21));
-    let out = tally::output(kept, lent_at(s, past(s, at, 1)));
-    let answered = before.answer(status, bound, port, out);
+    let lent = lent_at(s, past(s, at, 1));
+    let answered = before.answer(status, bound, port, tally::output(kept, lent));
     let answer = answered.answer;
     let server = answered.server;
-    let told = tally::put_sent(tally, text, answer, answered.sent);
+    let call = Call {
+        lent,
+        answer,
+        used: 0,
+        sent: answered.sent,
+    };
     Course {
         server,
         target,
-        tally: tally::keep_sent(told, kept, answered.sent),
+        tally: tally::take_sent(tally, call, kept, text),
     }
 }
 
@@ -105,7 +115,7 @@ fn end(course: Course, text: &mut [u8]) -> Course {
     Course {
         server,
         target,
-        tally: tally::put_answer(tally, text, answer),
+        tally: tally::take_answer(tally, answer, text),
     }
 }
 
@@ -148,32 +158,49 @@ fn kind_byte(kind: AddressKind) -> u8 {
     }
 }
 
-// A destination, or `-` if none was handed out, with a space before it.
+// The kind, the first n bytes and the port of a destination, split by colons.
+fn put_target(
+    start: Writer,
+    text: &mut [u8],
+    kind: AddressKind,
+    bytes: [u8; 1014],
+    n: usize,
+) -> Writer {
+    let writer = put_byte(start, text, kind_byte(kind));
+    let next = put_byte(writer, text, b':');
+    let told = put_hex(next, text, part(&bytes, 0, n));
+    put_byte(told, text, b':')
+}
+
+// A destination, or `-` if none was handed out.
 fn put_destination(start: Writer, text: &mut [u8], target: Target) -> Writer {
-    let writer = put_byte(start, text, b' ');
     if target.len == 0 {
-        return put_byte(writer, text, b'-');
+        return put_byte(start, text, b'-');
     }
     let kind = target.kind;
     let bytes = target.bytes;
-    let told = put_byte(put_byte(writer, text, kind_byte(kind)), text, b':');
-    let next = put_hex(told, text, part(&bytes, 0, target.len));
-    put_number(put_byte(next, text, b':'), text, target.port as u64)
+    let writer = put_target(start, text, kind, bytes, target.len);
+    put_number(writer, text, target.port as u64)
+}
+
+fn finish(course: Course, kept: &[u8], text: &mut [u8]) -> Writer {
+    let server = course.server;
+    let tally = course.tally;
+    let line = tally::finish(tally, state_of(server.outcome()), kept, text);
+    let writer = put_byte(line, text, b' ');
+    put_destination(writer, text, course.target)
 }
 
 pub fn run(s: &[u8], writer: Writer, kept: &mut [u8], text: &mut [u8]) -> Writer {
     let set = set_up(s);
     let answer = set.answer;
     let server = set.server;
-    let tally = tally::begin(writer, text, answer, ROOM);
+    let tally = tally::begin(writer, answer, ROOM, text);
     let first = Course {
         server,
         target: no_target(),
         tally,
     };
     let course = take_calls(first, s, cases::calls_at(s), kept, text);
-    let last = course.server;
-    let told = course.tally;
-    let line = tally::finish(told, text, kept, state_of(last.outcome()));
-    put_destination(line, text, course.target)
+    finish(course, kept, text)
 }

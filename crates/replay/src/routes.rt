@@ -1,6 +1,7 @@
 // Cases of routes: a route that is opened, and calls of the one that comes back.
 use crate::sessions::state_of;
 use crate::tally;
+use crate::tally::Call;
 use crate::tally::Tally;
 use cases::Target;
 use cases::lent_at;
@@ -30,10 +31,9 @@ fn begin(s: &[u8], writer: Writer, kept: &mut [u8], text: &mut [u8]) -> Course {
     let answer = opened.answer;
     let route = opened.route;
     let room = 1024 * byte_at(s, target.proxies) as usize;
-    let tally = tally::begin_open(writer, text, answer, opened.sent, room);
     Course {
         route,
-        tally: tally::keep_sent(tally, kept, opened.sent),
+        tally: tally::begin_sent(writer, answer, opened.sent, room, kept, text),
     }
 }
 
@@ -45,12 +45,15 @@ fn deliver(course: Course, s: &[u8], at: usize, kept: &mut [u8], text: &mut [u8]
     let delivered = before.deliver(piece, tally::output(kept, lent));
     let answer = delivered.answer;
     let route = delivered.route;
-    let used = delivered.used;
-    let told = tally::put_delivered(tally, text, answer, used, delivered.sent);
-    let next = tally::keep_sent(told, kept, delivered.sent);
+    let call = Call {
+        lent,
+        answer,
+        used: delivered.used,
+        sent: delivered.sent,
+    };
     Course {
         route,
-        tally: tally::keep_rest(next, kept, lent, socks::rest(piece, used)),
+        tally: tally::take_delivery(tally, call, piece, kept, text),
     }
 }
 
@@ -62,7 +65,7 @@ fn end(course: Course, text: &mut [u8]) -> Course {
     let route = ended.route;
     Course {
         route,
-        tally: tally::put_answer(tally, text, answer),
+        tally: tally::take_answer(tally, answer, text),
     }
 }
 
@@ -78,7 +81,7 @@ fn take_call(course: Course, s: &[u8], at: usize, kept: &mut [u8], text: &mut [u
     let tally = course.tally;
     Course {
         route,
-        tally: tally::put_entry(tally, text, route.attempts()),
+        tally: tally::take_number(tally, route.attempts(), text),
     }
 }
 
@@ -97,5 +100,5 @@ pub fn run(s: &[u8], writer: Writer, kept: &mut [u8], text: &mut [u8]) -> Writer
     let course = take_calls(first, s, cases::calls_at(s), kept, text);
     let last = course.route;
     let tally = course.tally;
-    tally::finish(tally, text, kept, state_of(last.outcome()))
+    tally::finish(tally, state_of(last.outcome()), kept, text)
 }

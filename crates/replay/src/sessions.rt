@@ -1,5 +1,6 @@
 // Cases of sessions: an opening that is prepared, and calls of the session that comes back.
 use crate::tally;
+use crate::tally::Call;
 use crate::tally::Tally;
 use cases::Opening;
 use cases::lent_at;
@@ -47,10 +48,15 @@ fn start(course: Course, s: &[u8], at: usize, kept: &mut [u8], text: &mut [u8]) 
     let started = before.start(tally::output(kept, lent));
     let answer = started.answer;
     let session = started.session;
-    let told = tally::put_sent(tally, text, answer, started.sent);
+    let call = Call {
+        lent,
+        answer,
+        used: 0,
+        sent: started.sent,
+    };
     Course {
         session,
-        tally: tally::keep_sent(told, kept, started.sent),
+        tally: tally::take_sent(tally, call, kept, text),
     }
 }
 
@@ -62,12 +68,15 @@ fn deliver(course: Course, s: &[u8], at: usize, kept: &mut [u8], text: &mut [u8]
     let delivered = before.deliver(piece, tally::output(kept, lent));
     let answer = delivered.answer;
     let session = delivered.session;
-    let used = delivered.used;
-    let told = tally::put_delivered(tally, text, answer, used, delivered.sent);
-    let next = tally::keep_sent(told, kept, delivered.sent);
+    let call = Call {
+        lent,
+        answer,
+        used: delivered.used,
+        sent: delivered.sent,
+    };
     Course {
         session,
-        tally: tally::keep_rest(next, kept, lent, socks::rest(piece, used)),
+        tally: tally::take_delivery(tally, call, piece, kept, text),
     }
 }
 
@@ -79,16 +88,21 @@ fn end(course: Course, text: &mut [u8]) -> Course {
     let session = ended.session;
     Course {
         session,
-        tally: tally::put_answer(tally, text, answer),
+        tally: tally::take_answer(tally, answer, text),
     }
 }
 
 // The bound address as text. The session stays.
-fn put_bound(session: Session, tally: Tally, lent: usize, kept: &mut [u8], text: &mut [u8]) -> Tally {
+fn put_bound(
+    session: Session,
+    tally: Tally,
+    lent: usize,
+    kept: &mut [u8],
+    text: &mut [u8],
+) -> Tally {
     let written = session.bound_text(tally::output(kept, lent));
     let answer = written.answer;
-    let told = tally::put_answer(tally, text, answer);
-    tally::put_text(told, text, part(kept, 0, written.len))
+    tally::take_text(tally, answer, part(kept, 0, written.len), text)
 }
 
 // A call that leaves the session as it is: its text or its attempts.
@@ -103,7 +117,7 @@ fn ask(course: Course, s: &[u8], at: usize, kept: &mut [u8], text: &mut [u8]) ->
     }
     Course {
         session,
-        tally: tally::put_entry(tally, text, session.attempts()),
+        tally: tally::take_number(tally, session.attempts(), text),
     }
 }
 
@@ -145,9 +159,9 @@ pub fn run(s: &[u8], writer: Writer, kept: &mut [u8], text: &mut [u8]) -> Writer
     let prepared = prepare(s, opening);
     let answer = prepared.answer;
     let session = prepared.session;
-    let tally = tally::begin(writer, text, answer, room_of(opening.version));
+    let tally = tally::begin(writer, answer, room_of(opening.version), text);
     let course = take_calls(Course { session, tally }, s, cases::calls_at(s), kept, text);
     let last = course.session;
     let told = course.tally;
-    tally::finish(told, text, kept, state_of(last.outcome()))
+    tally::finish(told, state_of(last.outcome()), kept, text)
 }

@@ -10,7 +10,7 @@ use report::put_field;
 use report::put_number;
 use report::put_state;
 
-// What is kept: the output lent to a call, the bytes sent by all, and the rests.
+// What is kept: the output lent to a call, the bytes sent by all calls, and the rests.
 pub const KEPT: usize = 83968;
 
 const SENT: usize = 9216;
@@ -27,35 +27,25 @@ pub struct Tally {
     pub rests: usize,
 }
 
-fn new(writer: Writer, room: usize) -> Tally {
-    Tally {
-        writer,
-        room,
-        called: false,
-        sent: SENT,
-        rests: RESTS,
-    }
+// What a call was lent and answers, how much of its piece it used, and how many bytes it sent.
+pub struct Call {
+    pub lent: usize,
+    pub answer: Answer,
+    pub used: usize,
+    pub sent: usize,
 }
 
 // The part of what is kept that is lent as output.
 pub fn output(kept: &mut [u8], lent: usize) -> &mut [u8] {
-    let n = wire::least(lent, kept.len());
-    &mut kept[..n]
-}
-
-// The first bytes of the output go behind what was sent before.
-pub fn keep_sent(tally: Tally, kept: &mut [u8], n: usize) -> Tally {
-    let writer = tally.writer;
-    Tally {
-        writer,
-        room: tally.room,
-        called: tally.called,
-        sent: copy_output(kept, n, tally.sent),
-        rests: tally.rests,
+    let start = 0;
+    if lent > kept.len() {
+        return &mut kept[start..start];
     }
+    &mut kept[start..lent]
 }
 
-fn copy_output(kept: &mut [u8], n: usize, to: usize) -> usize {
+// The output's first bytes go behind what was sent before.
+fn keep_sent(kept: &mut [u8], n: usize, to: usize) -> usize {
     let mut end = to;
     for i in 0..n {
         end = store(kept, end, byte_at(kept, i));
@@ -63,7 +53,8 @@ fn copy_output(kept: &mut [u8], n: usize, to: usize) -> usize {
     end
 }
 
-fn copy_rest(kept: &mut [u8], rest: &[u8], to: usize) -> usize {
+// What a delivery leaves of its piece goes behind the rests before.
+fn keep_rest(kept: &mut [u8], rest: &[u8], to: usize) -> usize {
     let mut end = to;
     for i in 0..rest.len() {
         end = store(kept, end, rest[i]);
@@ -71,22 +62,27 @@ fn copy_rest(kept: &mut [u8], rest: &[u8], to: usize) -> usize {
     end
 }
 
-// What a delivery leaves of its piece, if it lent what is asked.
-pub fn keep_rest(tally: Tally, kept: &mut [u8], lent: usize, rest: &[u8]) -> Tally {
-    if lent < tally.room {
-        return tally;
-    }
-    let writer = tally.writer;
-    Tally {
-        writer,
-        room: tally.room,
-        called: tally.called,
-        sent: tally.sent,
-        rests: copy_rest(kept, rest, tally.rests),
-    }
+fn number_of(answer: Answer) -> u64 {
+    error_numbers::answer_number(answer) as u64
 }
 
-fn at_writer(tally: Tally, writer: Writer) -> Tally {
+fn put_count(writer: Writer, text: &mut [u8], n: usize) -> Writer {
+    let next = put_byte(writer, text, b'/');
+    put_number(next, text, n as u64)
+}
+
+// A number at the start of an entry, with a comma before it unless that is the first.
+fn put_entry(tally: Tally, text: &mut [u8], n: u64) -> Writer {
+    let writer = tally.writer;
+    if tally.called {
+        let next = put_byte(writer, text, b',');
+        return put_number(next, text, n);
+    }
+    put_number(writer, text, n)
+}
+
+// The tally behind an entry.
+fn told(tally: Tally, writer: Writer) -> Tally {
     Tally {
         writer,
         room: tally.room,
@@ -96,58 +92,103 @@ fn at_writer(tally: Tally, writer: Writer) -> Tally {
     }
 }
 
-fn separate(tally: Tally, text: &mut [u8]) -> Writer {
-    let writer = tally.writer;
-    if tally.called {
-        return put_byte(writer, text, b',');
+// A call that has a number.
+pub fn take_number(tally: Tally, n: u64, text: &mut [u8]) -> Tally {
+    told(tally, put_entry(tally, text, n))
+}
+
+// A call that has an answer.
+pub fn take_answer(tally: Tally, answer: Answer, text: &mut [u8]) -> Tally {
+    take_number(tally, number_of(answer), text)
+}
+
+// A call that has an answer and a text.
+pub fn take_text(tally: Tally, answer: Answer, bytes: &[u8], text: &mut [u8]) -> Tally {
+    let writer = put_entry(tally, text, number_of(answer));
+    let next = put_byte(writer, text, b'/');
+    told(tally, put_field(next, text, bytes))
+}
+
+// A call that sends.
+pub fn take_sent(tally: Tally, call: Call, kept: &mut [u8], text: &mut [u8]) -> Tally {
+    let answer = call.answer;
+    let writer = put_entry(tally, text, number_of(answer));
+    Tally {
+        writer: put_count(writer, text, call.sent),
+        room: tally.room,
+        called: true,
+        sent: keep_sent(kept, call.sent, tally.sent),
+        rests: tally.rests,
     }
-    writer
 }
 
-// An entry that is a number, or begins with one.
-pub fn put_entry(tally: Tally, text: &mut [u8], n: u64) -> Tally {
-    let writer = separate(tally, text);
-    at_writer(tally, put_number(writer, text, n))
+fn put_delivery(tally: Tally, call: Call, text: &mut [u8]) -> Writer {
+    let answer = call.answer;
+    let writer = put_entry(tally, text, number_of(answer));
+    let next = put_count(writer, text, call.used);
+    put_count(next, text, call.sent)
 }
 
-// An entry that is an answer, or begins with one.
-pub fn put_answer(tally: Tally, text: &mut [u8], answer: Answer) -> Tally {
-    put_entry(tally, text, error_numbers::answer_number(answer) as u64)
+// A delivery. If it lends less than is asked it has no rest.
+fn rest_end(tally: Tally, call: Call, piece: &[u8], kept: &mut [u8]) -> usize {
+    if call.lent < tally.room {
+        return tally.rests;
+    }
+    keep_rest(kept, wire::rest(piece, call.used), tally.rests)
 }
 
-// A number behind an entry's others.
-fn put_count(tally: Tally, text: &mut [u8], n: usize) -> Tally {
-    let writer = put_byte(tally.writer, text, b'/');
-    at_writer(tally, put_number(writer, text, n as u64))
-}
-
-// Bytes behind an entry's number.
-pub fn put_text(tally: Tally, text: &mut [u8], bytes: &[u8]) -> Tally {
-    let writer = put_byte(tally.writer, text, b'/');
-    at_writer(tally, put_field(writer, text, bytes))
-}
-
-// The entry of a call that sends.
-pub fn put_sent(tally: Tally, text: &mut [u8], answer: Answer, sent: usize) -> Tally {
-    put_count(put_answer(tally, text, answer), text, sent)
-}
-
-// The entry of a delivery.
-pub fn put_delivered(tally: Tally, text: &mut [u8], answer: Answer, used: usize, sent: usize) -> Tally {
-    put_count(put_sent(tally, text, answer, used), text, sent)
+pub fn take_delivery(
+    tally: Tally,
+    call: Call,
+    piece: &[u8],
+    kept: &mut [u8],
+    text: &mut [u8],
+) -> Tally {
+    Tally {
+        writer: put_delivery(tally, call, text),
+        room: tally.room,
+        called: true,
+        sent: keep_sent(kept, call.sent, tally.sent),
+        rests: rest_end(tally, call, piece, kept),
+    }
 }
 
 // CHECK, and a space.
-pub fn begin(start: Writer, text: &mut [u8], answer: Answer, room: usize) -> Tally {
-    let writer = put_number(start, text, error_numbers::answer_number(answer) as u64);
-    new(put_byte(writer, text, b' '), room)
+fn begin_at(writer: Writer, text: &mut [u8], room: usize) -> Tally {
+    Tally {
+        writer: put_byte(writer, text, b' '),
+        room,
+        called: false,
+        sent: SENT,
+        rests: RESTS,
+    }
 }
 
-// CHECK of an opening that sends, and a space.
-pub fn begin_open(start: Writer, text: &mut [u8], answer: Answer, sent: usize, room: usize) -> Tally {
-    let told = put_number(start, text, error_numbers::answer_number(answer) as u64);
-    let writer = put_number(put_byte(told, text, b'/'), text, sent as u64);
-    new(put_byte(writer, text, b' '), room)
+pub fn begin(start: Writer, answer: Answer, room: usize, text: &mut [u8]) -> Tally {
+    let writer = put_number(start, text, number_of(answer));
+    begin_at(writer, text, room)
+}
+
+// CHECK of an opening that sends.
+pub fn begin_sent(
+    start: Writer,
+    answer: Answer,
+    sent: usize,
+    room: usize,
+    kept: &mut [u8],
+    text: &mut [u8],
+) -> Tally {
+    let check = put_number(start, text, number_of(answer));
+    let writer = put_count(check, text, sent);
+    let tally = begin_at(writer, text, room);
+    let next = tally.writer;
+    Tally {
+        writer: next,
+        room,
+        called: false,
+        sent: keep_sent(kept, sent, SENT),
+        rests: RESTS,
+    }
 }
 
 // CALLS is at its end: `-` if it has no entry.
@@ -159,16 +200,17 @@ fn end_calls(tally: Tally, text: &mut [u8]) -> Writer {
     put_byte(writer, text, b'-')
 }
 
-// A field of kept bytes, with a space before it.
+// A field of kept bytes between spaces, or behind one.
 fn put_kept(start: Writer, text: &mut [u8], kept: &[u8], from: usize, end: usize) -> Writer {
     let writer = put_byte(start, text, b' ');
     put_field(writer, text, part(kept, from, end))
 }
 
 // SENT, RESTS, OUTCOME and STATUS behind CALLS.
-pub fn finish(tally: Tally, text: &mut [u8], kept: &[u8], state: State) -> Writer {
+pub fn finish(tally: Tally, state: State, kept: &[u8], text: &mut [u8]) -> Writer {
     let calls = end_calls(tally, text);
     let sent = put_kept(calls, text, kept, SENT, tally.sent);
     let rests = put_kept(sent, text, kept, RESTS, tally.rests);
-    put_state(put_byte(rests, text, b' '), text, state)
+    let next = put_byte(rests, text, b' ');
+    put_state(next, text, state)
 }
