@@ -2,20 +2,13 @@
 use native.Mathlib.Omega.{arith}
 use mathlib.Core.Path.{_≡_, sym}
 use mathlib.Core.List.{List, _++_}
-use Prim.Native.Nat.{ℕ, _-_, _≤_, min}
+use Prim.Native.Nat.{ℕ, _-_, _≤_}
 use lib.ListN.{length, take, drop, length-take, length-drop}
 use lib.Seq.{length-take-le, take-append-le, take-take}
 use Rattle.io.specs.Counts.{Counts}
 
 pub counted : (n : ℕ) (s : List ℕ) → n ≤ length s → Counts n s
 counted n s h = (h, sym (length-take-le n s h))
-
--- the least of a count and a length
-pub least-fits : {n : ℕ} (m k : ℕ) (s : List ℕ) → n ≡ min m k → length s ≡ k → n ≤ length s
-least-fits m k s e l = omega arith
-
-pub least-long : {n : ℕ} (m k : ℕ) (s : List ℕ) → n ≡ min m k → length (take n s) ≤ k
-least-long m k s e = simp length-take (omega arith)
 
 -- what stands before bytes that are read anew
 pub front-kept : (at : ℕ) (s r : List ℕ) → at ≤ length s → take at (take at s ++ r) ≡ take at s

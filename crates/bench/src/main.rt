@@ -1,6 +1,7 @@
 // The proxy's end for a real client, on standard input and output: `bench FILE [USER PASSWORD]`. It serves one handshake and answers success;
 // the start of FILE goes out with its last reply, in one write. What was asked for and how it ended is said on standard error.
 use destinations::Target;
+use input::places::part;
 use libc::STDERR_FILENO;
 use libc::STDOUT_FILENO;
 use protocol::AddressKind;
@@ -11,11 +12,13 @@ use proxy::Outcome;
 use proxy::Server;
 use proxy::SetUp;
 use proxy::Stage;
-use report_fields::State;
-use report_fields::put_bytes;
-use report_fields::put_number;
-use report_fields::put_sent;
-use report_fields::put_state;
+use report::State;
+use report::Writer;
+use report::put_byte;
+use report::put_bytes;
+use report::put_field;
+use report::put_number;
+use report::put_state;
 use serving_stages::success;
 ghost use mathlib.Core.Path.{_≡_};
 ghost use Prim.Native.Nat.{_-_, _≤_};
@@ -185,50 +188,39 @@ fn hear(piece: &mut [u8]) {
     }
 }
 
-// A line on standard error; its last byte, a space, makes way for the line's end.
-fn say(text: &mut [u8], end: usize)
-    requires { ⌜ (1 ≤ end) × (end ≤ length (now text)) ⌝ }
-{
-    text[end - 1] = b'\n';
-    io::write_all(STDERR_FILENO, &text[..end]);
-}
-
-fn put_kind(kind: AddressKind, text: &mut [u8]) -> usize
-    requires { ⌜ 13 ≤ length (now text) ⌝ }
-    ensures { λ r. ⌜ r ≡ 13 ⌝ }
-{
+fn put_kind(writer: Writer, text: &mut [u8], kind: AddressKind) -> Writer {
     match kind {
-        AddressKind::Ipv4 => put_bytes(b"destination 4", text, 0),
-        AddressKind::Ipv6 => put_bytes(b"destination 6", text, 0),
-        AddressKind::Domain => put_bytes(b"destination n", text, 0),
+        AddressKind::Ipv4 => put_bytes(writer, text, b"destination 4 "),
+        AddressKind::Ipv6 => put_bytes(writer, text, b"destination 6 "),
+        AddressKind::Domain => put_bytes(writer, text, b"destination n "),
     }
 }
 
-// The kind of what was asked for, its bytes in hexadecimal, and the port, with a space behind.
-fn put_destination(kind: AddressKind, bytes: &[u8], port: u16, text: &mut [u8]) -> usize
-    requires { ⌜ (length (now bytes) ≤ 1014) × (4096 ≤ length (now text)) ⌝ }
-    ensures { λ r. ⌜ (1 ≤ r) × (r ≤ length (now (text .exit))) ⌝ }
-{
-    let at = put_kind(kind, text);
-    let next = put_sent(bytes, text, at);
-    put_number(port as u64, text, next)
+// The first n bytes of what was asked for, the port, and the line's end.
+fn put_asked(start: Writer, text: &mut [u8], bytes: [u8; 1014], n: usize, port: u16) -> Writer {
+    let writer = put_field(start, text, part(&bytes, 0, n));
+    let next = put_byte(writer, text, b' ');
+    let end = put_number(next, text, port as u64);
+    put_byte(end, text, b'\n')
 }
 
+// A line on standard error.
 fn say_destination(target: Target) {
     let kind = target.kind;
     let bytes = target.bytes;
-    let n = wire::least(target.len, 1014);
     let mut text = io::buffer();
-    let end = put_destination(kind, &bytes[..n], target.port, &mut text);
-    say(&mut text, end);
+    let writer = put_kind(report::new(STDERR_FILENO), &mut text, kind);
+    let end = put_asked(writer, &mut text, bytes, target.len, target.port);
+    report::finish(end, &text);
 }
 
-// The outcome's number, and its status.
+// The outcome's number and its status, as a line.
 fn say_outcome(server: Server) {
     let mut text = io::buffer();
-    let at = put_bytes(b"outcome ", &mut text, 0);
-    let end = put_state(state_of(server), &mut text, at);
-    say(&mut text, end);
+    let writer = put_bytes(report::new(STDERR_FILENO), &mut text, b"outcome ");
+    let next = put_state(writer, &mut text, state_of(server));
+    let end = put_byte(next, &mut text, b'\n');
+    report::finish(end, &text);
 }
 
 fn serve(server: Server, fd: i32, piece: &mut [u8], out: &mut [u8]) {

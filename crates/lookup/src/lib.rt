@@ -43,7 +43,7 @@ fn takes(found: bool, serves: bool) -> bool
 }
 
 // The core, on values: a record stays once it is found, and the next one is found if it serves.
-fn step(four: bool, chosen: Lookup, next: Record) -> Lookup
+pub fn step(four: bool, chosen: Lookup, next: Record) -> Lookup
     ensures { λ r. ⌜ r ≡ stepOf four chosen next ⌝ }
 {
     let family = next.family;

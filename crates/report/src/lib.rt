@@ -1,107 +1,106 @@
-// The text that is written, by its fields. Each `put_` function puts its bytes from a place on, and answers the place behind them.
-ghost use Prim.Native.Nat.{_+_, _*_, _≤_};
-ghost use lib.ListN.{length};
-ghost use Rattle.numerals.specs.Added.{Adds};
-ghost use Rattle.report.specs.Text.{resultsText, answersText, boundText, attemptsText, asked, closeText, noticeText};
-use numerals::put_decimal;
-pub use report_fields::State;
-pub use report_fields::put_bytes;
-use report_fields::put_end;
-use report_fields::put_field;
-use report_fields::put_number;
-use report_fields::put_numbers;
-use report_fields::put_sent;
-use report_fields::put_state;
-pub use report_fields::state_of;
+// Text that goes to a file through a lent buffer: numbers in decimal, bytes in lower-case hexadecimal, `-` for none.
+use numerals::hex_digit;
+use protocol::SocksError;
 
-// How the last session stands, how much was used, what the opening answered, and the end, if it was called.
-pub struct Results {
-    pub outcome: State,
-    pub used: u64,
-    pub opened: u8,
-    pub ended: bool,
-    pub answer: u8,
+// The file, and how much of the buffer is still to be written to it.
+pub struct Writer {
+    pub file: i32,
+    pub at: usize,
 }
 
-// What was sent, how the session stands, how much it used, and the opening's answer, with a space behind each.
-pub fn put_results(results: Results, sent: &[u8], text: &mut [u8], at: usize) -> usize
-    requires { ⌜ at + 2 * length (now sent) + 100 ≤ length (now text) ⌝ }
-    ensures { λ r. ⌜ r ≤ at + 2 * length (now (sent .entry)) + 100 ⌝ }
-    ensures { λ r. ⌜ Adds (now (text .entry)) at (resultsText results (now (sent .entry))) r (now (text .exit)) ⌝ }
-{
-    let outcome = results.outcome;
-    let behind = put_sent(sent, text, at);
-    let next = put_state(outcome, text, behind);
-    let last = put_number(results.used, text, next);
-    put_number(results.opened as u64, text, last)
+pub fn new(file: i32) -> Writer {
+    Writer { file, at: 0 }
 }
 
-// The deliveries' answers, and the end's.
-pub fn put_answers(answers: &[u8], ended: bool, answer: u8, text: &mut [u8], at: usize) -> usize
-    requires { ⌜ at + 4 * length (now answers) + 50 ≤ length (now text) ⌝ }
-    ensures { λ r. ⌜ r ≤ at + 4 * length (now (answers .entry)) + 50 ⌝ }
-    ensures { λ r. ⌜ Adds (now (text .entry)) at (answersText (now (answers .entry)) ended answer) r (now (text .exit)) ⌝ }
-{
-    let first = put_numbers(answers, text, at);
-    text[first] = b' ';
-    put_end(ended, answer, text, first + 1)
+// Writes what is still to be written.
+pub fn finish(writer: Writer, text: &[u8]) {
+    io::write_all(writer.file, input::places::part(text, 0, writer.at));
 }
 
-// A text's answer and its bytes, of which a refused one has none, with a space before each, if it was asked for.
-fn put_bound(asks: bool, answer: u8, bytes: &[u8], text: &mut [u8], at: usize) -> usize
-    requires { ⌜ at + 2 * length (now bytes) + 30 ≤ length (now text) ⌝ }
-    ensures { λ r. ⌜ r ≤ at + 2 * length (now (bytes .entry)) + 23 ⌝ }
-    ensures { λ r. ⌜ Adds (now (text .entry)) at (asked asks (boundText answer (now (bytes .entry)))) r (now (text .exit)) ⌝ }
-{
-    if !asks {
+// A place for a byte: a full buffer is written first.
+fn room(writer: Writer, text: &[u8]) -> usize {
+    let at = writer.at;
+    if at < text.len() {
         return at;
     }
-    text[at] = b' ';
-    let end = put_number(answer as u64, text, at + 1);
-    put_field(bytes, text, end)
+    io::write_all(writer.file, text);
+    0
 }
 
-// A number of attempts with a space before it, if it was asked for.
-fn put_attempts(asks: bool, n: u64, text: &mut [u8], at: usize) -> usize
-    requires { ⌜ at + 21 ≤ length (now text) ⌝ }
-    ensures { λ r. ⌜ r ≤ at + 21 ⌝ }
-    ensures { λ r. ⌜ Adds (now (text .entry)) at (asked asks (attemptsText n)) r (now (text .exit)) ⌝ }
-{
-    if !asks {
-        return at;
+pub fn put_byte(writer: Writer, text: &mut [u8], b: u8) -> Writer {
+    let file = writer.file;
+    let at = room(writer, text);
+    Writer {
+        file,
+        at: input::places::store(text, at, b),
     }
-    text[at] = b' ';
-    put_decimal(n, text, at + 1)
 }
 
-// What a line closes with: whether a text was asked for and what it answered, and whether the attempts were and how many there were.
-pub struct Closing {
-    pub texts: bool,
-    pub answer: u8,
-    pub counts: bool,
-    pub attempts: u64,
+pub fn put_bytes(start: Writer, text: &mut [u8], s: &[u8]) -> Writer {
+    let mut writer = start;
+    for i in 0..s.len() {
+        writer = put_byte(writer, text, s[i]);
+    }
+    writer
 }
 
-// What was asked for after all, and the line's end.
-pub fn put_close(closing: Closing, bytes: &[u8], text: &mut [u8], at: usize) -> usize
-    requires { ⌜ at + 2 * length (now bytes) + 50 ≤ length (now text) ⌝ }
-    ensures { λ r. ⌜ r ≤ at + 2 * length (now (bytes .entry)) + 50 ⌝ }
-    ensures { λ r. ⌜ Adds (now (text .entry)) at (closeText closing (now (bytes .entry))) r (now (text .exit)) ⌝ }
-{
-    let next = put_bound(closing.texts, closing.answer, bytes, text, at);
-    let end = put_attempts(closing.counts, closing.attempts, text, next);
-    text[end] = b'\n';
-    end + 1
+fn put_hex_byte(writer: Writer, text: &mut [u8], b: u8) -> Writer {
+    let next = put_byte(writer, text, hex_digit(b / 16));
+    put_byte(next, text, hex_digit(b % 16))
 }
 
-// What is wrong with the case at an offset.
-pub fn put_wrong(what: &[u8], offset: u64, text: &mut [u8], at: usize) -> usize
-    requires { ⌜ at + length (now what) + 21 ≤ length (now text) ⌝ }
-    ensures { λ r. ⌜ r ≤ at + length (now (what .entry)) + 21 ⌝ }
-    ensures { λ r. ⌜ Adds (now (text .entry)) at (noticeText (now (what .entry)) offset) r (now (text .exit)) ⌝ }
-{
-    let end = put_bytes(what, text, at);
-    let next = put_decimal(offset, text, end);
-    text[next] = b'\n';
-    next + 1
+pub fn put_hex(start: Writer, text: &mut [u8], s: &[u8]) -> Writer {
+    let mut writer = start;
+    for i in 0..s.len() {
+        writer = put_hex_byte(writer, text, s[i]);
+    }
+    writer
+}
+
+// Bytes in hexadecimal, or `-` if there are none.
+pub fn put_field(writer: Writer, text: &mut [u8], s: &[u8]) -> Writer {
+    if s.len() == 0 {
+        return put_byte(writer, text, b'-');
+    }
+    put_hex(writer, text, s)
+}
+
+pub fn put_number(writer: Writer, text: &mut [u8], n: u64) -> Writer {
+    let mut digits = [0u8; 20];
+    let count = io::decimal(n, &mut digits);
+    put_bytes(writer, text, &digits[..count])
+}
+
+// How a session stands, a route, or the proxy's end, which is asked while it awaits its caller's answer.
+pub enum State {
+    Waiting,
+    Asked,
+    Open,
+    Failed(SocksError),
+}
+
+// `waiting`, `asked`, or 0 for open, or the number of a failure.
+fn put_outcome(writer: Writer, text: &mut [u8], state: State) -> Writer {
+    match state {
+        State::Waiting => put_bytes(writer, text, b"waiting"),
+        State::Asked => put_bytes(writer, text, b"asked"),
+        State::Open => put_byte(writer, text, b'0'),
+        State::Failed(error) => put_number(writer, text, error_numbers::number(error) as u64),
+    }
+}
+
+fn status_of(state: State) -> u8 {
+    match state {
+        State::Waiting => 0,
+        State::Asked => 0,
+        State::Open => 0,
+        State::Failed(error) => error_numbers::status(error),
+    }
+}
+
+// An outcome, and the status with a space before it.
+pub fn put_state(writer: Writer, text: &mut [u8], state: State) -> Writer {
+    let told = put_outcome(writer, text, state);
+    let next = put_byte(told, text, b' ');
+    put_number(next, text, status_of(state) as u64)
 }

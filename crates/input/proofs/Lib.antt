@@ -1,2 +1,0 @@
-mod Moved
-pub mod Laws

@@ -1,3 +1,0 @@
-mod Heads
-mod Looks
-pub mod Laws
