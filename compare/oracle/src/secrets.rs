@@ -1,11 +1,10 @@
-//! Request F-6 on the programs: cases in pairs, alike but for the bytes of user and password, of equal lengths. The two
+//! Request F-6 on `replay`: sessions and routes in pairs, alike but for the bytes of user and password, of equal lengths. The two
 //! lines are the same but for the sent bytes, and these are the same but where user and password stand.
-use crate::case::{CREDENTIALS, Case, hex};
-use crate::compare::counts;
+use crate::case::*;
+use crate::compare::{ask, counts};
 use crate::draw::Random;
 use crate::generate;
-use crate::hold::{Held, ask};
-use crate::model::{Step, plan};
+use crate::model::{Step, openings, plan};
 use crate::shrink::shrink;
 use std::collections::BTreeMap;
 
@@ -14,50 +13,55 @@ const BATCH: usize = 2000;
 const SHOWN: usize = 10;
 // Of the cases that send no secret one in so many is taken.
 const WITHOUT: u64 = 8;
-// The fields that every line has, and the place of two of them.
-const FIELDS: usize = 8;
-const SENT: usize = 1;
-const OUTCOME: usize = 2;
+// The fields of a line, and the place of two of them.
+const FIELDS: usize = 6;
+const SENT: usize = 2;
+const OUTCOME: usize = 4;
 
 // A user or password, and where it stands in all sent bytes once these go so far.
-pub type Place<'a> = (usize, &'a [u8]);
+type Place = (usize, Vec<u8>);
 
-pub trait Secret: Held {
-    // Users and passwords, also those that no request holds.
-    fn secrets(&mut self) -> Vec<&mut Vec<u8>>;
-    fn places(&self) -> Vec<Place<'_>>;
-}
-
-// Of a session whose requests begin at this place: behind the greeting, 01 and a length; behind the user and a length.
-pub fn places_from(at: usize, version: u8, flags: u8, [user, password]: [&[u8]; 2]) -> Vec<Place<'_>> {
-    if version == 4 || flags & CREDENTIALS == 0 {
-        return vec![];
-    }
-    vec![(at + 5, user), (at + 6 + user.len(), password)]
+// Users and passwords, also those that no request holds.
+fn secrets(case: &mut Case) -> Vec<&mut Vec<u8>> {
+    let openings = match &mut case.kind {
+        Kind::Session(opening) => std::slice::from_mut(opening),
+        Kind::Route(route, _) => &mut route.proxies[..],
+        _ => &mut [],
+    };
+    openings.iter_mut().flat_map(|opening| [&mut opening.user, &mut opening.password]).collect()
 }
 
 // Of all requests together.
-pub fn requests_length(opening: &Case) -> usize {
+fn requests_length(opening: &Opening) -> usize {
     let length = |step: &Step| if let Step::Send(request) = step { request.len() } else { 0 };
     plan(opening).iter().map(length).sum()
 }
 
-impl Secret for Case {
-    fn secrets(&mut self) -> Vec<&mut Vec<u8>> {
-        vec![&mut self.user, &mut self.password]
+// Each session's behind all requests to the proxies before: behind the greeting, 01 and a length; behind the user and a
+// length.
+fn places(case: &Case) -> Vec<Place> {
+    let openings = match &case.kind {
+        Kind::Session(opening) => vec![opening.clone()],
+        Kind::Route(route, _) => openings(route),
+        _ => vec![],
+    };
+    let (mut at, mut all) = (0, vec![]);
+    for opening in openings {
+        if opening.version == 5 && opening.has(CREDENTIALS) {
+            let behind = at + 6 + opening.user.len();
+            all.extend([(at + 5, opening.user.clone()), (behind, opening.password.clone())]);
+        }
+        at += requests_length(&opening);
     }
-
-    fn places(&self) -> Vec<Place<'_>> {
-        places_from(0, self.version, self.flags, [&self.user, &self.password])
-    }
+    all
 }
 
 // ---- pairs
 
 // The case with other users and passwords, as long.
-fn other<C: Secret>(case: &C, seed: u64, number: u64) -> C {
+fn other(case: &Case, seed: u64, number: u64) -> Case {
     let (mut r, mut other) = (Random::new(!seed, number), case.clone());
-    for secret in other.secrets() {
+    for secret in secrets(&mut other) {
         let n = secret.len();
         *secret = match r.below(4) {
             0 => r.utf8(n),
@@ -69,12 +73,12 @@ fn other<C: Secret>(case: &C, seed: u64, number: u64) -> C {
     other
 }
 
-fn taken<C: Secret>(number: u64, case: &C) -> bool {
-    number % WITHOUT == WITHOUT - 1 || case.places().iter().any(|(_, secret)| !secret.is_empty())
+fn taken(number: u64, case: &Case) -> bool {
+    number % WITHOUT == WITHOUT - 1 || places(case).iter().any(|(_, secret)| !secret.is_empty())
 }
 
 // The lines of each case and of its other.
-fn lines<C: Secret>(program: &str, pairs: &[[C; 2]]) -> Vec<[String; 2]> {
+fn lines(program: &str, pairs: &[[Case; 2]]) -> Vec<[String; 2]> {
     let mut lines = ask(program, pairs.as_flattened()).into_iter();
     pairs.iter().map(|_| [(); 2].map(|()| lines.next().unwrap_or_default())).collect()
 }
@@ -97,10 +101,10 @@ fn parts(line: &str) -> Option<(Vec<u8>, Vec<&str>)> {
 }
 
 // The sent bytes with zeros for each user and password, which must stand there.
-fn without<C: Secret>(case: &C, mut sent: Vec<u8>) -> Option<Vec<u8>> {
-    for (at, secret) in case.places() {
+fn without(case: &Case, mut sent: Vec<u8>) -> Option<Vec<u8>> {
+    for (at, secret) in places(case) {
         if let Some(bytes) = sent.get_mut(at..at + secret.len()) {
-            if bytes != secret {
+            if *bytes != secret[..] {
                 return None;
             }
             bytes.fill(0);
@@ -110,7 +114,7 @@ fn without<C: Secret>(case: &C, mut sent: Vec<u8>) -> Option<Vec<u8>> {
 }
 
 // In how many bytes the sent bytes differ, none of them outside the places; none: the lines are not as they should be.
-fn held<C: Secret>([one, other]: &[C; 2], [line, another]: &[String; 2]) -> Option<usize> {
+fn held([one, other]: &[Case; 2], [line, another]: &[String; 2]) -> Option<usize> {
     let ((sent, fields), (others, other_fields)) = (parts(line)?, parts(another)?);
     let differ = sent.iter().zip(&others).filter(|(a, b)| a != b).count();
     let same = fields == other_fields && without(one, sent)? == without(other, others)?;
@@ -118,11 +122,11 @@ fn held<C: Secret>([one, other]: &[C; 2], [line, another]: &[String; 2]) -> Opti
 }
 
 // Changes the byte ahead of the last password that was sent, in the second line; answers whether there is one.
-fn plant<C: Secret>(case: &C, line: &mut String) -> bool {
+fn plant(case: &Case, line: &mut String) -> bool {
     let Some((mut sent, _)) = parts(line) else {
         return false;
     };
-    let Some((at, _)) = case.places().into_iter().rev().find(|(at, secret)| at + secret.len() <= sent.len()) else {
+    let Some((at, _)) = places(case).into_iter().rev().find(|(at, secret)| at + secret.len() <= sent.len()) else {
         return false;
     };
     sent[at - 1] ^= 1;
@@ -159,20 +163,20 @@ struct Run<'a> {
 
 impl Run<'_> {
     // Cut to the smallest case whose pair shows it.
-    fn show<C: Secret>(&mut self, number: u64, case: &C, planted: bool) {
+    fn show(&mut self, number: u64, case: &Case, planted: bool) {
         self.figures.differences += 1;
         if self.figures.differences > SHOWN {
             return;
         }
-        let pair = |case: &C| [case.clone(), other(case, self.seed, number)];
-        let told = |pairs: &[[C; 2]]| {
+        let pair = |case: &Case| [case.clone(), other(case, self.seed, number)];
+        let told = |pairs: &[[Case; 2]]| {
             let mut lines = lines(self.program, pairs);
             for (pair, lines) in pairs.iter().zip(&mut lines).filter(|_| planted) {
                 plant(&pair[1], &mut lines[1]);
             }
             lines
         };
-        let differs = |cases: &[C]| {
+        let differs = |cases: &[Case]| {
             let pairs: Vec<_> = cases.iter().map(pair).collect();
             pairs.iter().zip(told(&pairs)).position(|(pair, lines)| held(pair, &lines).is_none())
         };
@@ -184,7 +188,7 @@ impl Run<'_> {
         }
     }
 
-    fn batch<C: Secret>(&mut self, cases: &[(u64, C)], at: u64, planting: &mut Option<u64>) {
+    fn batch(&mut self, cases: &[(u64, Case)], at: u64, planting: &mut Option<u64>) {
         let pairs: Vec<_> = cases.iter().map(|(n, case)| [case.clone(), other(case, self.seed, *n)]).collect();
         let lines = lines(self.program, &pairs);
         for (((place, (number, case)), pair), mut lines) in (at..).zip(cases).zip(&pairs).zip(lines) {
@@ -202,32 +206,27 @@ impl Run<'_> {
 
 // Answers the differences, and in how many pairs the sent bytes differ. With `plant`, one byte of one line is changed,
 // in that pair or the next that can be.
-pub fn pairs<C: Secret>(
-    seed: u64,
-    count: u64,
-    program: &str,
-    mut plant: Option<u64>,
-    generate: fn(u64, u64) -> C,
-) -> (usize, usize) {
+fn pairs(kind: u8, seed: u64, count: u64, program: &str, mut plant: Option<u64>) -> (usize, usize) {
     let mut run = Run { seed, program, figures: Figures::default() };
-    let mut cases = (0..).map(|n| (n, generate(seed, n))).filter(|(n, case)| taken(*n, case));
+    let mut cases = (0..).map(|n| (n, generate::case(kind, seed, n))).filter(|(n, case)| taken(*n, case));
     for start in (0..count).step_by(BATCH) {
         let some: Vec<_> = cases.by_ref().take(BATCH.min((count - start) as usize)).collect();
         run.batch(&some, start, &mut plant);
     }
     let Figures { differ, bytes, outcomes, differences } = run.figures;
     println!(
-        "{program}: {count} pairs, in {differ} of them the sent bytes differ where user and password stand, in {bytes} \
-        bytes; {differences} differences\noutcomes: {}",
+        "{}: {count} pairs, in {differ} of them the sent bytes differ where user and password stand, in {bytes} bytes; \
+        {differences} differences\noutcomes: {}",
+        if kind == b'S' { "sessions" } else { "routes" },
         counts(&outcomes)
     );
     (differences, differ)
 }
 
 // Of sessions and of routes, so many pairs each. Answers whether all is the same, with some sent bytes that differ.
-pub fn random(seed: u64, count: u64, [replay, route]: [&str; 2], plant: Option<u64>) -> bool {
-    let (first, told) = pairs(seed, count, replay, plant, generate::case);
-    let (second, routes_told) = crate::route::secrets::pairs(seed, count, route, plant);
+pub fn random(seed: u64, count: u64, program: &str, plant: Option<u64>) -> bool {
+    let (first, told) = pairs(b'S', seed, count, program, plant);
+    let (second, routes_told) = pairs(b'R', seed, count, program, plant);
     println!("seed {seed}: {} pairs, {} differences", 2 * count, first + second);
     first + second == 0 && told > 0 && routes_told > 0
 }

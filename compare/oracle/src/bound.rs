@@ -1,11 +1,11 @@
 //! The text of a bound address against the standard library's `Display` of the same address and port: the model's, and
 //! `replay`'s through whole sessions. `Display` writes some IPv6 addresses with a dotted tail. These are set aside: of
 //! them the text must have no dot, and the standard library must read it back.
-use crate::case::*;
+use crate::case::Case;
+use crate::compare::ask;
+use crate::draft::*;
 use crate::draw::Random;
-use crate::hold::ask;
 use crate::model;
-use crate::tunnel::Line;
 use std::net::{IpAddr, SocketAddr};
 
 const BATCH: u64 = 20000;
@@ -21,18 +21,9 @@ fn case(version: u8, bound: SocketAddr) -> Case {
         (_, IpAddr::V4(ip)) => [&[5, 0, 5, 0, 0, 1], &ip.octets()[..], &port].concat(),
         (_, IpAddr::V6(ip)) => [&[5, 0, 5, 0, 0, 4], &ip.octets()[..], &port].concat(),
     };
-    Case {
-        version,
-        flags: PORT | TEXT,
-        port: 443,
-        lent: 1024,
-        host: b"a".to_vec(),
-        user: vec![],
-        password: vec![],
-        records: vec![],
-        deliveries: vec![Delivery { lent: 1024, piece: reply }],
-        text_lent: 47,
-    }
+    let mut case = base(version).lent(1024).piece_lent(1024, &reply).flag(TEXT);
+    (case.host, case.text_lent) = (b"a".to_vec(), 47);
+    case.case()
 }
 
 fn draw(seed: u64, number: u64) -> (Case, SocketAddr) {
@@ -94,9 +85,9 @@ impl Figures {
     }
 }
 
-// The line's text, if it has one.
+// The line's text, if it has one: behind its third call's answer.
 fn told(line: &str) -> Option<String> {
-    let digits = line.rsplit(' ').next()?;
+    let digits = line.split(' ').nth(1)?.split(',').nth(2)?.strip_prefix("0/")?;
     let byte = |at: usize| u8::from_str_radix(digits.get(at..at + 2)?, 16).ok();
     String::from_utf8((0..digits.len()).step_by(2).map(byte).collect::<Option<_>>()?).ok()
 }
@@ -111,7 +102,7 @@ fn wanted(bound: SocketAddr, aside: bool, line: &str) -> String {
 fn lines(replay: Option<&str>, cases: &[Case]) -> Vec<String> {
     match replay {
         Some(replay) => ask(replay, cases),
-        None => cases.iter().map(|case| model::answer(case).text()).collect(),
+        None => cases.iter().map(model::text).collect(),
     }
 }
 
@@ -129,9 +120,10 @@ pub fn random(seed: u64, count: u64, replay: Option<&str>, mut plant: Option<u64
             if !aside && plant.take_if(|n| *n <= number).is_some() {
                 text.insert(1, '0');
             }
-            let model = model::answer(case);
-            let modelled = model.text();
-            let wanted = Line { bound: Some((0, text.into_bytes())), ..model }.text();
+            let modelled = model::text(case);
+            let mut told = model::line(case);
+            told.calls[2].text = Some(text.into_bytes());
+            let wanted = told.text(&case.kind);
             if *line != wanted || modelled != wanted {
                 figures.differ(number, bound, [&wanted, line, &modelled]);
             }

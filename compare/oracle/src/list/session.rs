@@ -1,10 +1,9 @@
-//! The kept list: cases that hold every outcome, status and boundary.
+//! Sessions of the kept list: every outcome, status and boundary.
+use super::Kept;
 use crate::case::*;
+use crate::draft::*;
 use crate::draw::EDGES;
-use crate::expect::expect;
-use crate::{generate, model, rust};
-use std::collections::{BTreeMap, HashSet};
-use std::fs;
+use crate::{generate, model};
 use std::net::Ipv4Addr;
 
 // Those that ask for neither text nor attempts. Random cases fill them up, as far as they are small.
@@ -19,79 +18,39 @@ const IPV4_REPLY: [u8; 10] = [5, 0, 0, 1, 192, 0, 2, 7, 31, 144];
 pub const IPV6_REPLY: [u8; 22] = [5, 0, 0, 4, 32, 1, 13, 184, 0, 0, 0, 0, 0, 0, 0, 0, 0, 0, 0, 1, 0, 80];
 pub const SHORT_NAME: [u8; 8] = [5, 0, 0, 3, 1, b'x', 0, 80];
 
-// Each case once.
-pub struct Kept<C> {
-    pub cases: Vec<C>,
-    seen: HashSet<Vec<u8>>,
-}
-
-type List = Kept<Case>;
-
-impl<C: Fed> Kept<C> {
-    pub fn new() -> Self {
-        Kept { cases: vec![], seen: HashSet::new() }
-    }
-
-    pub fn add(&mut self, case: C) {
-        if self.seen.insert(case.bytes()) {
-            self.cases.push(case);
-        }
-    }
-}
-
-fn base(version: u8) -> Case {
-    Case {
-        version,
-        flags: PORT,
-        port: 443,
-        lent: 2048,
-        host: b"a.example".to_vec(),
-        user: vec![],
-        password: vec![],
-        records: vec![],
-        deliveries: vec![],
-        text_lent: 0,
-    }
-}
-
-impl Case {
-    fn host(mut self, host: &[u8]) -> Case {
+impl Draft<Opening> {
+    fn host(mut self, host: &[u8]) -> Draft<Opening> {
         self.host = host.to_vec();
         self
     }
 
-    fn credentials(mut self, user: usize, password: usize) -> Case {
+    fn credentials(mut self, user: usize, password: usize) -> Draft<Opening> {
         (self.user, self.password) = (vec![b'u'; user], vec![b'p'; password]);
         self.flag(CREDENTIALS)
     }
 
     // Records of these families, each with an address of its own.
-    fn records(mut self, families: &str) -> Case {
+    fn records(mut self, families: &str) -> Draft<Opening> {
         let address = |n: u8| std::array::from_fn(|i| 16 * n + i as u8);
         self.records = families.bytes().zip(1..).map(|(family, n)| (family - b'0', address(n))).collect();
         self
     }
 
     // One record more, of an address's first bytes; the others are used by family six alone.
-    fn record(mut self, family: u8, first: [u8; 4]) -> Case {
+    fn record(mut self, family: u8, first: [u8; 4]) -> Draft<Opening> {
         self.records.push((family, std::array::from_fn(|i| *first.get(i).unwrap_or(&1))));
         self
     }
 
-    fn lent(mut self, lent: u16) -> Case {
-        self.lent = lent;
-        self
-    }
-
     // Asks for the text, with a buffer of this length.
-    fn asks(mut self, lent: u16) -> Case {
+    fn told(mut self, lent: u16) -> Draft<Opening> {
         self.text_lent = lent;
         self.flag(TEXT)
     }
 }
 
 // The replies that open a session, for a case without damage.
-pub fn good(case: &Case) -> Vec<u8> {
+pub fn good(case: &Opening) -> Vec<u8> {
     match (case.version, case.has(CREDENTIALS)) {
         (4, _) => OPENS4.to_vec(),
         (_, false) => [&[5, 0], &SHORT_NAME[..]].concat(),
@@ -99,12 +58,18 @@ pub fn good(case: &Case) -> Vec<u8> {
     }
 }
 
+// A session of each kind.
+pub fn base_cases() -> [Draft<Opening>; 5] {
+    let with = base(5).credentials(1, 2);
+    [base(5), base(5).flag(OPTIMISTIC), with.clone(), with.flag(OPTIMISTIC), base(4)]
+}
+
 // The output that its start and its deliveries ask.
-fn asked(case: &Case) -> (u16, u16) {
+fn asked(case: &Opening) -> (u16, u16) {
     (model::start_asks(case) as u16, model::delivery_asks(case) as u16)
 }
 
-fn served(case: Case) -> Case {
+fn served(case: Draft<Opening>) -> Draft<Opening> {
     let replies = good(&case);
     case.piece(&replies)
 }
@@ -113,7 +78,7 @@ fn served(case: Case) -> Case {
 
 // Each check alone and every set of them together, so that their order shows; the start's output enough, one byte too
 // short, and none.
-fn refusals(list: &mut List) {
+fn refusals(list: &mut Kept) {
     let hosts: [&[u8]; 7] = [b"a", b"", b"[]", b"a b", b"::1", b"0.0.0.1", &[b'n'; 1015]];
     for version in [5, 4] {
         let (start, delivery) = asked(&base(version));
@@ -139,7 +104,7 @@ fn refusals(list: &mut List) {
 }
 
 // A start that lends too little: what was prepared waits, whatever is delivered, and is not ended.
-fn not_started(list: &mut List) {
+fn not_started(list: &mut Kept) {
     let cases = [
         base(5),
         base(5).credentials(1, 2),
@@ -163,7 +128,7 @@ fn not_started(list: &mut List) {
     }
 }
 
-fn outputs(list: &mut List) {
+fn outputs(list: &mut Kept) {
     for version in [5, 4] {
         for n in [0, 1, 261, 262, 263, 777, 778, 779, 1023, 1024, 1025, 2047, 2048, 2049, 65535] {
             list.add(served(base(version).lent(n)));
@@ -175,7 +140,7 @@ fn outputs(list: &mut List) {
     }
 }
 
-fn host_bytes(list: &mut List) {
+fn host_bytes(list: &mut Kept) {
     for b in 0..=255 {
         list.add(served(base(5).host(&[b'a', b, b'z'])));
     }
@@ -195,14 +160,14 @@ const HOSTS: &str = "
     1:2:3:4:5:6::1.2.3.4 ::01.2.3.4 ::1.2.3.4:5 fe80::1%1 ABCD:ef01:: 0000:0:00:000:0:0:0:0 00000:: a example.com
     h-1.example. [example.com] 1.2.3.4:80 ::0.0.0.5 hello-world 2001:db8:0:0:1:0:0:1";
 
-fn host_texts(list: &mut List) {
+fn host_texts(list: &mut Kept) {
     for text in HOSTS.split_whitespace() {
         list.add(base(4).host(text.as_bytes()));
         list.add(served(base(5).host(text.as_bytes())));
     }
 }
 
-fn name_lengths(list: &mut List) {
+fn name_lengths(list: &mut Kept) {
     for n in [1, 2, 11, 100, 200, 246, 247, 251, 252, 253, 254, 255, 256, 257, 1013, 1014, 1015, 1016, 5000] {
         let name = vec![b'n'; n];
         let bracketed = [b"[", &name[..], b"]"].concat();
@@ -218,7 +183,7 @@ fn name_lengths(list: &mut List) {
     }
 }
 
-fn credential_lengths(list: &mut List) {
+fn credential_lengths(list: &mut Kept) {
     let lengths = [0, 1, 2, 122, 123, 124, 125, 246, 247, 254, 255, 256, 257];
     for user in lengths {
         for password in [0, 123, 255, 256] {
@@ -248,7 +213,7 @@ fn credential_lengths(list: &mut List) {
 }
 
 // The longest requests, plainly and all at once, with no more output than is asked.
-fn long_requests(list: &mut List) {
+fn long_requests(list: &mut Kept) {
     for flags in [0, OPTIMISTIC] {
         for name in 252..=255 {
             let case = base(5).host(&vec![b'n'; name]).credentials(255, 255).flag(flags).lent(778);
@@ -273,7 +238,7 @@ fn long_requests(list: &mut List) {
     }
 }
 
-fn ports(list: &mut List) {
+fn ports(list: &mut Kept) {
     for version in [5, 4] {
         for port in [0, 1, 80, 255, 256, 443, 32768, 65535] {
             for host in [&b"1.2.3.4"[..], b"name", b"::1"] {
@@ -288,7 +253,7 @@ fn ports(list: &mut List) {
     }
 }
 
-fn lookups(list: &mut List) {
+fn lookups(list: &mut Kept) {
     for version in [5, 4] {
         for records in ["", "4", "6", "46", "64", "44", "66", "6644", "66666664", "66666666"] {
             for host in [&b"name"[..], b"1.2.3.4", b"[::1]"] {
@@ -301,7 +266,7 @@ fn lookups(list: &mut List) {
 }
 
 // Addresses that announce a name over v4, and those beside them: typed, in brackets, looked up.
-fn announcing(list: &mut List) {
+fn announcing(list: &mut Kept) {
     let other = [192, 0, 2, 7];
     let beside = [[0, 0, 0, 0], [0, 0, 1, 0], [0, 0, 1, 1], [0, 1, 0, 1], [1, 0, 0, 1]];
     for first in [1, 9, 255].map(|x| [0, 0, 0, x]).into_iter().chain(beside) {
@@ -328,7 +293,7 @@ fn announcing(list: &mut List) {
 
 // ---- replies
 
-fn method_replies(list: &mut List) {
+fn method_replies(list: &mut Kept) {
     for b in (0..=8).chain(0x7E..=0x81).chain(0xFC..=0xFF) {
         list.add(base(5).piece(&[5, b]));
     }
@@ -343,7 +308,7 @@ fn method_replies(list: &mut List) {
     }
 }
 
-fn connect_replies(list: &mut List) {
+fn connect_replies(list: &mut Kept) {
     let addresses: [&[u8]; 3] = [&[1, 192, 0, 2, 7, 31, 144], &IPV6_REPLY[3..], &SHORT_NAME[3..]];
     for status in [0, 1, 2, 3, 4, 5, 6, 7, 8, 9, 10, 127, 128, 255] {
         for address in addresses {
@@ -372,7 +337,7 @@ fn connect_replies(list: &mut List) {
     }
 }
 
-fn bound_names(list: &mut List) {
+fn bound_names(list: &mut Kept) {
     let mut names: Vec<Vec<u8>> = vec![];
     for a in EDGES {
         names.extend([
@@ -396,7 +361,7 @@ fn bound_names(list: &mut List) {
     }
 }
 
-fn replies4(list: &mut List) {
+fn replies4(list: &mut Kept) {
     for b in (80..=100).chain([0, 1, 127, 128, 255]) {
         list.add(base(4).host(b"h").piece(&[0, b, 0, 80, 1, 2, 3, 4]));
     }
@@ -417,7 +382,7 @@ fn replies4(list: &mut List) {
 // ---- pieces
 
 // Whole handshakes: every prefix, every cut in two, byte by byte, with noise between, with bytes behind.
-fn pieces(list: &mut List) {
+fn pieces(list: &mut Kept) {
     let with = base(5).host(b"192.0.2.7").credentials(1, 2);
     let handshakes = [
         (base(5).host(b"192.0.2.7"), [&[5, 0], &IPV4_REPLY[..], b"SDF"].concat()),
@@ -441,7 +406,7 @@ fn pieces(list: &mut List) {
     }
 }
 
-fn long_pieces(list: &mut List) {
+fn long_pieces(list: &mut Kept) {
     let name = [&[5, 0, 0, 3, 255], &[b'n'; 255][..], &[0, 80]].concat();
     let behind = vec![0xAB; 600];
     for case in [base(5), base(5).credentials(1, 1), base(5).credentials(1, 1).flag(OPTIMISTIC)] {
@@ -460,7 +425,7 @@ fn long_pieces(list: &mut List) {
 }
 
 // Document 01's bench sheet, and its own slips; the name of request F-4.
-fn bench(list: &mut List) {
+fn bench(list: &mut Kept) {
     list.add(base(5).host(b"[2001:db8::1]").piece(&[5, 0]));
     for host in [&b"["[..], b"01.2.3.4", b"1:2:3:4:5:6:7::", b"1:2:3:4:5:6:7:8::", b"1.2.3.4::"] {
         list.add(base(5).host(host).piece(&[5, 0]));
@@ -489,7 +454,7 @@ fn bench(list: &mut List) {
 // ---- the bound address
 
 // The replies that open a case's session, the last with this address, its kind ahead of it, and port.
-fn bound_at(case: &Case, address: &[u8], port: u16) -> Vec<u8> {
+fn bound_at(case: &Opening, address: &[u8], port: u16) -> Vec<u8> {
     let port = port.to_be_bytes();
     match (case.version, case.has(CREDENTIALS)) {
         (4, _) => [&[0, 90], &port[..], &address[1..]].concat(),
@@ -507,7 +472,7 @@ fn six(groups: [u16; 8]) -> Vec<u8> {
 }
 
 // A case of each kind of session, with each kind of address, whose text has this length.
-fn bound_sessions() -> Vec<(Case, Vec<u8>, u16)> {
+fn bound_sessions() -> Vec<(Draft<Opening>, Vec<u8>, u16)> {
     let addresses = [
         (vec![1, 192, 0, 2, 7], 8080, 14),
         (six([0x2001, 0xDB8, 0, 0, 1, 0, 0, 1]), 1080, 24),
@@ -530,46 +495,46 @@ fn bound_sessions() -> Vec<(Case, Vec<u8>, u16)> {
 }
 
 // Whole, with bytes behind the reply, byte by byte, cut in two, with noise; the buffer at the text's length and beside.
-fn bound_pieces(list: &mut List) {
+fn bound_pieces(list: &mut Kept) {
     for (case, replies, n) in bound_sessions() {
         let whole = case.clone().piece(&replies);
         for lent in [n, n - 1, n + 1, 0, 2048, 2049, 65535] {
-            list.add(whole.clone().asks(lent));
+            list.add(whole.clone().told(lent));
         }
         let behind = [&replies[..], b"SDF"].concat();
         for flags in [0, END] {
-            list.add(whole.clone().flag(flags).asks(n));
-            list.add(case.clone().piece(&behind).flag(flags).asks(n));
-            list.add(case.clone().each_byte(&behind).flag(flags).asks(n));
+            list.add(whole.clone().flag(flags).told(n));
+            list.add(case.clone().piece(&behind).flag(flags).told(n));
+            list.add(case.clone().each_byte(&behind).flag(flags).told(n));
         }
-        list.add(case.clone().piece(&behind).asks(n - 1));
+        list.add(case.clone().piece(&behind).told(n - 1));
         let (_, asked) = asked(&case);
         let late = whole.piece(&replies).piece_lent(asked - 1, b"lost").piece(b"");
-        list.add(late.flag(END).asks(n));
+        list.add(late.flag(END).told(n));
         let tried = case.piece_lent(asked - 1, &replies).piece(b"").piece_lent(0, b"");
-        list.add(tried.clone().asks(2048));
-        list.add(tried.piece_lent(asked, &replies).asks(n));
+        list.add(tried.clone().told(2048));
+        list.add(tried.piece_lent(asked, &replies).told(n));
     }
     for (case, replies, n) in bound_sessions().into_iter().step_by(4) {
         for at in 1..replies.len() {
             let (before, later) = replies.split_at(at);
-            list.add(case.clone().piece(before).piece(&[later, b"on"].concat()).asks(n));
+            list.add(case.clone().piece(before).piece(&[later, b"on"].concat()).told(n));
         }
     }
 }
 
 // No text: waiting, failed, ended, refused, not started.
-fn not_open(list: &mut List) {
+fn not_open(list: &mut Kept) {
     for (case, replies, _) in bound_sessions() {
         let last = replies.len() - 1;
         for lent in [2048, 0] {
-            list.add(case.clone().asks(lent));
-            list.add(case.clone().flag(END).asks(lent));
-            list.add(case.clone().piece(&replies[..last]).asks(lent));
-            list.add(case.clone().piece(&replies[..last]).flag(END).asks(lent));
+            list.add(case.clone().told(lent));
+            list.add(case.clone().flag(END).told(lent));
+            list.add(case.clone().piece(&replies[..last]).told(lent));
+            list.add(case.clone().piece(&replies[..last]).flag(END).told(lent));
             let (start, _) = asked(&case);
-            list.add(case.clone().lent(start - 1).piece(&replies).asks(lent));
-            list.add(case.clone().lent(0).piece(&replies).flag(END).asks(lent));
+            list.add(case.clone().lent(start - 1).piece(&replies).told(lent));
+            list.add(case.clone().lent(0).piece(&replies).flag(END).told(lent));
         }
         // the reply's second byte
         let at = if case.version == 4 {
@@ -583,9 +548,9 @@ fn not_open(list: &mut List) {
         for status in statuses {
             let mut failing = replies.clone();
             failing[at] = status;
-            list.add(case.clone().piece(&failing).asks(2048));
-            list.add(case.clone().each_byte(&failing).flag(END).asks(0));
-            list.add(case.clone().piece(&failing).piece(&replies).asks(2048));
+            list.add(case.clone().piece(&failing).told(2048));
+            list.add(case.clone().each_byte(&failing).flag(END).told(0));
+            list.add(case.clone().piece(&failing).piece(&replies).told(2048));
         }
     }
     for (case, reply) in [
@@ -599,17 +564,17 @@ fn not_open(list: &mut List) {
         (base(5), &[5, 0, 5, 0, 1]),
         (base(4), &[4, 90, 0, 80, 1, 2, 3, 4]),
     ] {
-        list.add(case.clone().piece(reply).asks(2048));
-        list.add(case.piece(reply).flag(END).asks(0));
+        list.add(case.clone().piece(reply).told(2048));
+        list.add(case.piece(reply).flag(END).told(0));
     }
     for case in unprepared() {
-        list.add(case.clone().asks(2048));
-        list.add(served(case.flag(END)).asks(0));
+        list.add(case.clone().told(2048));
+        list.add(served(case.flag(END)).told(0));
     }
 }
 
 // Each number of preparing.
-fn unprepared() -> Vec<Case> {
+pub fn unprepared() -> Vec<Draft<Opening>> {
     let mut no_port = base(5);
     no_port.flags &= !PORT;
     vec![
@@ -627,7 +592,7 @@ fn unprepared() -> Vec<Case> {
     ]
 }
 
-fn bound_six(list: &mut List) {
+fn bound_six(list: &mut Kept) {
     let mut all = vec![
         [0x2001, 0xDB8, 0, 0, 1, 0, 0, 1],
         [0, 0, 0, 0, 0, 0, 0, 1],
@@ -655,38 +620,38 @@ fn bound_six(list: &mut List) {
     all.extend((0..256).map(|set| std::array::from_fn(|i| if set >> i & 1 == 0 { 0 } else { i as u16 + 1 })));
     for groups in all {
         let replies = bound_at(&base(5), &six(groups), 1080);
-        list.add(base(5).host(b"h").piece(&replies).asks(2048));
+        list.add(base(5).host(b"h").piece(&replies).told(2048));
     }
     // the longest text, 47 bytes
     for lent in [46, 47, 48] {
-        list.add(base(5).host(b"h").piece(&bound_at(&base(5), &six([0xFFFF; 8]), 65535)).asks(lent));
-        list.add(base(5).host(b"h").piece(&bound_at(&base(5), &six([0; 8]), 65535)).asks(lent));
+        list.add(base(5).host(b"h").piece(&bound_at(&base(5), &six([0xFFFF; 8]), 65535)).told(lent));
+        list.add(base(5).host(b"h").piece(&bound_at(&base(5), &six([0; 8]), 65535)).told(lent));
     }
     // the shortest, 6 bytes
     for lent in [5, 6] {
-        list.add(base(5).host(b"h").piece(&bound_at(&base(5), &six([0; 8]), 0)).asks(lent));
+        list.add(base(5).host(b"h").piece(&bound_at(&base(5), &six([0; 8]), 0)).told(lent));
     }
 }
 
 // Numbers at the ends of their digits, over both versions; the longest text has 21 bytes, the shortest 9.
-fn bound_four(list: &mut List) {
+fn bound_four(list: &mut Kept) {
     let addresses =
         [[0, 0, 0, 0], [0, 0, 0, 5], [9, 10, 99, 100], [1, 2, 3, 4], [127, 0, 0, 1], [199, 200, 249, 250], [255; 4]];
     for version in [5, 4] {
         let case = base(version).host(b"h");
         for address in addresses {
             for port in [0, 9, 443, 65535] {
-                list.add(case.clone().piece(&bound_at(&case, &[&[1], &address[..]].concat(), port)).asks(2048));
+                list.add(case.clone().piece(&bound_at(&case, &[&[1], &address[..]].concat(), port)).told(2048));
             }
         }
         for (address, port, n) in [([255; 4], 65535, 21), ([0; 4], 0, 9)] {
             let replies = bound_at(&case, &[&[1], &address[..]].concat(), port);
             for lent in [n, n - 1] {
-                list.add(case.clone().piece(&replies).asks(lent));
+                list.add(case.clone().piece(&replies).told(lent));
             }
         }
         for port in [1, 10, 80, 99, 100, 255, 256, 257, 999, 1000, 9999, 10000, 10101, 32768, 59999, 60000] {
-            list.add(case.clone().piece(&bound_at(&case, &[1, 10, 0, 0, 1], port)).asks(2048));
+            list.add(case.clone().piece(&bound_at(&case, &[1, 10, 0, 0, 1], port)).told(2048));
         }
     }
 }
@@ -695,7 +660,7 @@ const NAMES: &str = "x X ab Exit.Example example. 192.0.2.7 2001:db8::1 [::1] [:
     \u{80} \u{E9} \u{7FF}\u{800} \u{65E5}\u{672C}\u{8A9E}.jp \u{D7FF}\u{E000}\u{FFFF} a\u{1F600}b\u{10FFFF} \u{10000}";
 
 // Names as received, whatever they hold.
-fn bound_names_told(list: &mut List) {
+fn bound_names_told(list: &mut Kept) {
     let mut names: Vec<Vec<u8>> = NAMES.split(' ').map(Vec::from).collect();
     names.extend([b" ".to_vec(), b"a b\n".to_vec()]);
     names.push("\u{1F600}".repeat(63).into());
@@ -703,8 +668,8 @@ fn bound_names_told(list: &mut List) {
     for name in names {
         for case in [base(5).host(b"h"), base(5).host(b"h").credentials(1, 1)] {
             let replies = bound_at(&case, &named(&name), 80);
-            list.add(case.clone().piece(&replies).asks(2048));
-            list.add(case.piece(&replies).asks(name.len() as u16 + 2));
+            list.add(case.clone().piece(&replies).told(2048));
+            list.add(case.piece(&replies).told(name.len() as u16 + 2));
         }
     }
     for n in [1, 2, 3, 253, 254, 255] {
@@ -713,11 +678,11 @@ fn bound_names_told(list: &mut List) {
             let replies = bound_at(&case, &named(&vec![b'n'; n]), port);
             let whole = n as u16 + 1 + digits;
             for lent in [whole, whole - 1, 0, 2048, 2049] {
-                list.add(case.clone().piece(&replies).asks(lent));
+                list.add(case.clone().piece(&replies).told(lent));
             }
             let (before, later) = replies.split_at(replies.len() - 1);
-            list.add(case.clone().piece(before).piece(&[later, b"on"].concat()).asks(whole));
-            list.add(case.piece(&[&replies[..], &vec![0xAB; 600]].concat()).asks(whole));
+            list.add(case.clone().piece(before).piece(&[later, b"on"].concat()).told(whole));
+            list.add(case.piece(&[&replies[..], &vec![0xAB; 600]].concat()).told(whole));
         }
     }
     // with the longest requests
@@ -725,7 +690,7 @@ fn bound_names_told(list: &mut List) {
         let case = base(5).host(&[b'r'; 255]).credentials(255, 255).flag(flags).lent(778);
         let replies = bound_at(&case, &named(&[b'n'; 255]), 65535);
         for lent in [260, 261] {
-            list.add(case.clone().piece_lent(778, &replies).asks(lent));
+            list.add(case.clone().piece_lent(778, &replies).told(lent));
         }
     }
 }
@@ -733,21 +698,21 @@ fn bound_names_told(list: &mut List) {
 // ---- the attempts
 
 // A session of each kind, and the replies that open it; request F-11's first.
-fn counted_sessions() -> Vec<(Case, Vec<&'static [u8]>)> {
+fn counted_sessions() -> Vec<(Draft<Opening>, Vec<&'static [u8]>)> {
     let with = base(5).credentials(1, 2);
-    let mut all: Vec<(Case, Vec<&[u8]>)> = vec![
+    let mut all: Vec<(Draft<Opening>, Vec<&[u8]>)> = vec![
         (base(5).host(b"192.0.2.7"), vec![&[5, 0], &IPV4_REPLY]),
         (base(5).flag(OPTIMISTIC), vec![&[5, 0], &IPV6_REPLY]),
         (with.clone(), vec![&[5, 2], &[1, 0], &IPV4_REPLY]),
         (with.flag(OPTIMISTIC), vec![&[5, 2], &[1, 0], &SHORT_NAME]),
         (base(4), vec![&OPENS4]),
     ];
-    all.iter_mut().for_each(|(case, _)| case.flags |= ATTEMPTS);
+    all.iter_mut().for_each(|(case, _)| case.last |= ATTEMPTS);
     all
 }
 
 // Byte by byte, in one piece, reply by reply, with bytes behind; every prefix and every cut in two.
-fn counted_pieces(list: &mut List) {
+fn counted_pieces(list: &mut Kept) {
     for (case, replies) in counted_sessions() {
         let stream = replies.concat();
         let behind = [&stream[..], b"SDF"].concat();
@@ -766,7 +731,7 @@ fn counted_pieces(list: &mut List) {
 }
 
 // What adds nothing: an empty piece, a delivery that lends too little, one to a session that is open; an end.
-fn counted_noise(list: &mut List) {
+fn counted_noise(list: &mut Kept) {
     for (case, replies) in counted_sessions() {
         let stream = replies.concat();
         let (_, asked) = asked(&case);
@@ -783,7 +748,8 @@ fn counted_noise(list: &mut List) {
             list.add(short.clone().flag(END));
             list.add(short.piece_lent(asked, later).piece_lent(asked - 1, b"lost"));
         }
-        let noisy = |case: Case, b: &u8| case.piece(b"").piece_lent(asked - 1, &[*b]).piece_lent(asked, &[*b]);
+        let noisy =
+            |case: Draft<Opening>, b: &u8| case.piece(b"").piece_lent(asked - 1, &[*b]).piece_lent(asked, &[*b]);
         list.add(stream.iter().fold(case.clone(), noisy));
         let open = case.piece(&stream);
         list.add(open.clone().flag(END));
@@ -793,9 +759,9 @@ fn counted_noise(list: &mut List) {
 }
 
 // At the first reply, the second and the third: in one piece, byte by byte, cut in two, with more behind.
-fn counted_failures(list: &mut List) {
+fn counted_failures(list: &mut Kept) {
     let with = base(5).credentials(1, 1);
-    let start = |case: &Case| if case.has(CREDENTIALS) { vec![5, 2, 1, 0] } else { vec![5, 0] };
+    let start = |case: &Opening| if case.has(CREDENTIALS) { vec![5, 2, 1, 0] } else { vec![5, 0] };
     let mut all = vec![];
     for case in [base(5), base(5).flag(OPTIMISTIC), with.clone(), with.clone().flag(OPTIMISTIC)] {
         let wrong = if case.has(CREDENTIALS) { 0 } else { 2 };
@@ -836,7 +802,7 @@ fn counted_failures(list: &mut List) {
 }
 
 // None: a start that lends too little, and what preparing refuses, whatever is delivered.
-fn counted_refusals(list: &mut List) {
+fn counted_refusals(list: &mut Kept) {
     for (case, replies) in counted_sessions() {
         let stream = replies.concat();
         let (start, delivery) = asked(&case);
@@ -858,7 +824,7 @@ fn counted_refusals(list: &mut List) {
 }
 
 // Names byte by byte, near a hundred attempts and up to the most of any session, 268; the longest in larger pieces too.
-fn counted_names(list: &mut List) {
+fn counted_names(list: &mut Kept) {
     let with = base(5).host(b"h").credentials(1, 1);
     for case in [base(5).host(b"h"), with.clone(), with.flag(OPTIMISTIC)] {
         let case = case.flag(ATTEMPTS);
@@ -881,28 +847,28 @@ fn counted_names(list: &mut List) {
 }
 
 // The text and the attempts together.
-fn told_and_counted(list: &mut List) {
+fn told_and_counted(list: &mut Kept) {
     for (case, replies, n) in bound_sessions() {
         let case = case.flag(ATTEMPTS);
         let (start, _) = asked(&case);
         for lent in [n, n - 1] {
-            list.add(case.clone().piece(&replies).asks(lent));
-            list.add(case.clone().each_byte(&replies).asks(lent));
+            list.add(case.clone().piece(&replies).told(lent));
+            list.add(case.clone().each_byte(&replies).told(lent));
         }
         let (before, last) = replies.split_at(replies.len() - 1);
-        list.add(case.clone().piece(before).asks(n));
-        list.add(case.clone().each_byte(before).flag(END).asks(n));
-        list.add(case.clone().piece(before).piece(&[last, b"SDF"].concat()).piece(&replies).flag(END).asks(n));
-        list.add(case.clone().lent(start - 1).piece(&replies).asks(n));
-        list.add(case.asks(n));
+        list.add(case.clone().piece(before).told(n));
+        list.add(case.clone().each_byte(before).flag(END).told(n));
+        list.add(case.clone().piece(before).piece(&[last, b"SDF"].concat()).piece(&replies).flag(END).told(n));
+        list.add(case.clone().lent(start - 1).piece(&replies).told(n));
+        list.add(case.told(n));
     }
     for case in unprepared() {
-        list.add(served(case).flag(ATTEMPTS).asks(2048));
+        list.add(served(case).flag(ATTEMPTS).told(2048));
     }
 }
 
-fn cases() -> Vec<Case> {
-    let mut list = List::new();
+pub fn add(list: &mut Kept) {
+    let first = list.cases.len();
     let parts = [
         bench,
         refusals,
@@ -923,70 +889,16 @@ fn cases() -> Vec<Case> {
         pieces,
         long_pieces,
     ];
-    for part in parts {
-        part(&mut list);
-    }
-    let fill = CASES.saturating_sub(list.cases.len());
-    let small = |case: &Case| case.bytes().len() < SMALL;
-    for case in (0..).map(|n| generate::plain(1, n)).filter(small).take(fill) {
-        list.add(case);
-    }
-    for part in [bound_pieces, not_open, bound_six, bound_four, bound_names_told] {
-        part(&mut list);
-    }
-    let asking = |case: &Case| small(case) && case.has(TEXT);
-    for case in (0..).map(|n| generate::textual(1, n)).filter(asking).take(ASKING) {
-        list.add(case);
-    }
-    for part in [counted_pieces, counted_noise, counted_failures, counted_refusals, counted_names, told_and_counted] {
-        part(&mut list);
-    }
-    let counting = |case: &Case| small(case) && case.has(ATTEMPTS);
-    for case in (0..).map(|n| generate::case(1, n)).filter(counting).take(COUNTING) {
-        list.add(case);
-    }
-    list.cases
-}
-
-pub fn save(dir: &str, stdin: &[u8], stdout: &str) -> Result<(), String> {
-    let saved = fs::create_dir_all(dir).and_then(|()| fs::write(format!("{dir}/stdin"), stdin));
-    saved.and_then(|()| fs::write(format!("{dir}/stdout"), stdout)).map_err(|e| format!("{dir}: {e}"))
-}
-
-// Writes the list and its answers, and says what it holds; fails where the original and the model differ.
-pub fn write(dir: &str) -> Result<(), String> {
-    let (mut stdin, mut stdout) = (vec![], String::new());
-    let mut held: BTreeMap<String, usize> = BTreeMap::new();
-    let (mut refused, mut answered) = (0, 0);
-    let mut texts: BTreeMap<u8, usize> = BTreeMap::new();
-    let mut attempts = vec![];
-    let cases = cases();
-    for case in &cases {
-        let line = expect(case)
-            .map_err(|told| format!("{}: {} but {told}", hex(&case.bytes()), model::answer(case).text()))?;
-        case.write(&mut stdin);
-        stdout += &(line.text() + "\n");
-        let outcome = line.outcome.map_or("waiting".into(), |n| format!("{n:2}"));
-        *held.entry(format!("{outcome} {}", line.status)).or_default() += 1;
-        refused += usize::from(line.open == 1);
-        answered += usize::from(line.answers.contains(&22) || line.end == Some(22));
-        if let Some((answer, _)) = line.bound {
-            *texts.entry(answer).or_default() += 1;
-        }
-        attempts.extend(line.attempts);
-    }
-    // a case that the program refuses, and what it must not reach
-    stdout += &format!("bad case at {}\n", stdin.len());
-    stdin.extend([6, 8]);
-    base(5).write(&mut stdin);
-    save(dir, &stdin, &stdout)?;
-    let overflows = cases.iter().filter(|case| rust::overflows(case)).count();
-    println!("{} cases, {} bytes, answers {} bytes", cases.len(), stdin.len(), stdout.len());
-    println!("{refused} whose start is refused with 1, {answered} that answer 22 behind it");
-    let answers = texts.iter().map(|(answer, n)| format!("{answer}: {n}")).collect::<Vec<_>>().join(", ");
-    println!("{} that ask for the text, its answers {answers}", texts.values().sum::<usize>());
-    println!("{} that ask for the attempts, at most {}", attempts.len(), attempts.iter().max().unwrap_or(&0));
-    println!("{overflows} that the Rust ends with WouldOverflow; outcome and status:");
-    println!("{}", held.iter().map(|(what, n)| format!("{what}: {n}")).collect::<Vec<_>>().join(", "));
-    Ok(())
+    parts.iter().for_each(|part| part(list));
+    let fill = CASES.saturating_sub(list.cases.len() - first);
+    // beside the kind and the calls' letters
+    let small = |case: &Case| case.bytes().len() - 1 - case.calls.len() < SMALL;
+    list.random(fill, generate::plain, small);
+    let parts = [bound_pieces, not_open, bound_six, bound_four, bound_names_told];
+    parts.iter().for_each(|part| part(list));
+    let asks = |case: &Case, letter: u8| case.calls.iter().any(|call| call.letter() == letter);
+    list.random(ASKING, generate::textual, |case| small(case) && asks(case, b'b'));
+    let parts = [counted_pieces, counted_noise, counted_failures, counted_refusals, counted_names, told_and_counted];
+    parts.iter().for_each(|part| part(list));
+    list.random(COUNTING, |r| generate::in_order(b'S', r, 0), |case| small(case) && asks(case, b't'));
 }

@@ -1,17 +1,86 @@
-//! The kept list of the proxy's end: every number, status and boundary of request F-3.
-use super::build::*;
-use super::case::Case;
-use super::compare::Figures;
-use super::{expect, generate, model};
+//! Cases of the proxy's end in the kept list: every number, status and boundary of request F-3.
+use super::Kept;
 use crate::case::*;
-use crate::hold::Says;
-use crate::list::{Kept, save};
+use crate::draft::*;
+use crate::generate;
+use crate::requests::*;
 
 // Random cases fill the list up to so many, as far as they are small.
 const CASES: usize = 1060;
 const SMALL: usize = 300;
 
-type List = Kept<Case>;
+// ---- cases
+
+fn bare() -> Draft<SetUp> {
+    Draft::new(SetUp { flags: 0, user: vec![], password: vec![] })
+}
+
+// Set up with credentials.
+fn set(user: &[u8], password: &[u8]) -> Draft<SetUp> {
+    Draft::new(SetUp { flags: CREDENTIALS, user: user.to_vec(), password: password.to_vec() })
+}
+
+impl Draft<SetUp> {
+    pub fn answer_lent(mut self, lent: u16, status: u8, family: u8, address: [u8; 16], port: u16) -> Self {
+        self.calls.push(Call::Answer(lent, Answer { status, bound: (family, address), port }));
+        self
+    }
+
+    // Bound to 10.0.0.1, port 8080.
+    pub fn answer(self, status: u8) -> Self {
+        self.answer_lent(SetUp::ENOUGH, status, 4, BOUND, 8080)
+    }
+
+    fn pieces(self, pieces: &[Vec<u8>]) -> Self {
+        pieces.iter().fold(self, |case, piece| case.piece(piece))
+    }
+}
+
+// ---- sessions
+
+// An end, the client's requests one by one, and the status of success.
+struct Session {
+    end: Draft<SetUp>,
+    requests: Vec<Vec<u8>>,
+    success: u8,
+}
+
+impl Session {
+    fn stream(&self) -> Vec<u8> {
+        self.requests.concat()
+    }
+}
+
+fn session5(with: bool, address: &[u8]) -> Session {
+    let mut requests = vec![greeting(if with { &[0, 2] } else { &[0] })];
+    if with {
+        requests.push(credentials(b"u", b"pw"));
+    }
+    requests.push(connect([5, 1, 0], address));
+    Session { end: if with { set(b"u", b"pw") } else { bare() }, requests, success: 0 }
+}
+
+fn session4(address: [u8; 4], user_id: &[u8], name: Option<&[u8]>) -> Session {
+    Session { end: bare(), requests: vec![request4(1, address, user_id, name)], success: 90 }
+}
+
+// One of each: without credentials and with, addresses and names, user ids.
+fn sessions() -> Vec<Session> {
+    let name = named(b"a.example");
+    vec![
+        session5(false, &FOUR),
+        session5(false, &SIX),
+        session5(false, &name),
+        session5(true, &FOUR),
+        session5(true, &SIX),
+        session5(true, &name),
+        session4([192, 0, 2, 7], b"", None),
+        session4([192, 0, 2, 7], b"me", None),
+        session4([0, 0, 0, 0], b"", None),
+        session4([0, 0, 0, 255], b"", Some(b"a.example")),
+        session4([0, 0, 0, 1], b"me", Some(b"x")),
+    ]
+}
 
 // One short connect and one short v4 request that hand out a destination.
 fn good5() -> Vec<u8> {
@@ -22,22 +91,38 @@ fn good4() -> Vec<u8> {
     request4(1, [192, 0, 2, 7], b"", None)
 }
 
+// An end that awaits the caller's answer.
+pub fn asked() -> Draft<SetUp> {
+    bare().piece(&good5())
+}
+
+// Ends with the requests that get them so far, and the status of success; one whose set-up is refused.
+pub fn shortest() -> [(SetUp, Vec<u8>, u8); 4] {
+    let with = [greeting(&[2]), credentials(b"u", b"pw"), connect([5, 1, 0], &named(b"x"))].concat();
+    [
+        (bare().of, good5(), 0),
+        (bare().of, good4(), 90),
+        (set(b"u", b"pw").of, with, 0),
+        (set(&[b'u'; 256], b"").of, good5(), 0),
+    ]
+}
+
 // Whole, one byte short of whole, and byte by byte with more behind.
-fn ways(list: &mut List, end: &Case, stream: &[u8]) {
+fn ways(list: &mut Kept, end: &Draft<SetUp>, stream: &[u8]) {
     list.add(end.clone().piece(stream).piece(b"late").answer(0).answer(90));
     list.add(end.clone().piece(&stream[..stream.len() - 1]));
     list.add(end.clone().each_byte(stream).piece(b"SDF").flag(END));
 }
 
 // Whole with more behind it.
-fn once(list: &mut List, end: &Case, stream: &[u8]) {
+fn once(list: &mut Kept, end: &Draft<SetUp>, stream: &[u8]) {
     list.add(end.clone().piece(&[stream, b"SDF"].concat()).flag(END));
 }
 
 // ---- whole sessions
 
 // Nothing yet; the requests at once, one by one and byte by byte, with and without more behind; answered and not.
-fn whole(list: &mut List) {
+fn whole(list: &mut Kept) {
     for session in sessions() {
         let (end, success, stream) = (session.end.clone(), session.success, session.stream());
         list.add(end.clone());
@@ -53,7 +138,7 @@ fn whole(list: &mut List) {
 }
 
 // In two at every byte.
-fn cuts(list: &mut List) {
+fn cuts(list: &mut Kept) {
     for session in [2, 4, 5, 7, 9].map(|n| sessions().remove(n)) {
         let stream = [&session.stream()[..], b"S"].concat();
         for n in 1..stream.len() {
@@ -64,7 +149,7 @@ fn cuts(list: &mut List) {
 }
 
 // 9 behind every byte.
-fn ends(list: &mut List) {
+fn ends(list: &mut Kept) {
     for session in [2, 4, 9].map(|n| sessions().remove(n)) {
         let stream = session.stream();
         (1..stream.len()).for_each(|n| list.add(session.end.clone().piece(&stream[..n]).flag(END)));
@@ -74,10 +159,10 @@ fn ends(list: &mut List) {
 // ---- set-up
 
 // 5 with credentials alone; every call is then 16, and every piece that is lent enough is rest.
-fn set_ups(list: &mut List) {
+fn set_ups(list: &mut Kept) {
     for (user, password) in [(256, 0), (0, 256), (256, 256), (255, 256), (256, 255), (1000, 1), (65535, 0)] {
         let end = set(&vec![b'u'; user], &vec![b'p'; password]);
-        let late = |case: Case| case.piece_lent(262, &good5()).piece_lent(261, b"lost").piece(b"").answer(0);
+        let late = |case: Draft<SetUp>| case.piece_lent(262, &good5()).piece_lent(261, b"lost").piece(b"").answer(0);
         list.add(late(end.clone()).flag(END));
         if user + password < 1000 {
             list.add(end.clone());
@@ -98,7 +183,7 @@ fn set_ups(list: &mut List) {
 
 // ---- v5
 
-fn first_bytes(list: &mut List) {
+fn first_bytes(list: &mut Kept) {
     for first in [0, 1, 3, 6, 255] {
         list.add(bare().piece(&[first]));
         once(list, &bare(), &[first]);
@@ -107,7 +192,7 @@ fn first_bytes(list: &mut List) {
 }
 
 // `02` with credentials, else `00`: anywhere among the methods, or not; decided when the greeting is whole.
-fn greetings(list: &mut List) {
+fn greetings(list: &mut Kept) {
     for end in [bare(), set(b"u", b"pw")] {
         let right = if end.has(CREDENTIALS) { 2 } else { 0 };
         list.add(end.clone().piece(&[5, 0]).flag(END));
@@ -133,7 +218,7 @@ fn greetings(list: &mut List) {
 }
 
 // Lengths from none to 255; wrong ones are told once whole.
-fn logins(list: &mut List) {
+fn logins(list: &mut Kept) {
     let hello = greeting(&[2]);
     let after = connect([5, 1, 0], &named(b"x"));
     for (user, password) in [(0, 0), (0, 1), (1, 0), (1, 1), (255, 0), (0, 255), (255, 255)] {
@@ -179,7 +264,7 @@ fn logins(list: &mut List) {
 }
 
 // Version, then the reserved byte whatever the command, then the type, then the command once all is there.
-fn connects(list: &mut List) {
+fn connects(list: &mut Kept) {
     for (end, hello) in
         [(bare(), greeting(&[0])), (set(b"u", b"pw"), [greeting(&[2]), credentials(b"u", b"pw")].concat())]
     {
@@ -209,7 +294,7 @@ fn connects(list: &mut List) {
 }
 
 // A name of 1 to 255 of any bytes; addresses and ports at their edges.
-fn destinations5(list: &mut List) {
+fn destinations5(list: &mut Kept) {
     let at = |address: &[u8]| [&greeting(&[0])[..], &connect([5, 1, 0], address)].concat();
     for command in [1, 2] {
         once(list, &bare(), &[5, 1, 0, 5, command, 0, 3, 0]);
@@ -241,7 +326,7 @@ fn destinations5(list: &mut List) {
 
 // ---- v4
 
-fn commands4(list: &mut List) {
+fn commands4(list: &mut Kept) {
     let requests = |command: u8| {
         [
             request4(command, [192, 0, 2, 7], b"", None),
@@ -261,7 +346,7 @@ fn commands4(list: &mut List) {
     }
 }
 
-fn user_ids(list: &mut List) {
+fn user_ids(list: &mut Kept) {
     for n in [0, 1, 2, 127, 254, 255] {
         let id = vec![b'i'; n];
         for (address, name) in [([10, 0, 0, 1], None), ([0, 0, 0, 9], Some(&b"nm"[..]))] {
@@ -282,7 +367,7 @@ fn user_ids(list: &mut List) {
     list.add(bare().piece(&request4(1, [10, 0, 0, 1], &(1..=255).collect::<Vec<u8>>(), None)).answer(90));
 }
 
-fn names4(list: &mut List) {
+fn names4(list: &mut Kept) {
     let announced = [0, 0, 0, 255];
     for n in [1, 2, 255, 256, 257, 1013, 1014] {
         let request = request4(1, announced, b"", Some(&vec![b'n'; n]));
@@ -320,7 +405,7 @@ fn names4(list: &mut List) {
 }
 
 // Which addresses announce a name; ports.
-fn addresses4(list: &mut List) {
+fn addresses4(list: &mut Kept) {
     for address in [
         [0, 0, 0, 0],
         [0, 0, 0, 1],
@@ -345,7 +430,7 @@ fn addresses4(list: &mut List) {
 
 // ---- the caller's answer
 
-fn statuses(list: &mut List) {
+fn statuses(list: &mut Kept) {
     let all = (0..=9).chain(89..=94).chain([255]);
     for status in all {
         for (stream, behind) in [(good5(), b"five"), (good4(), b"four")] {
@@ -356,7 +441,7 @@ fn statuses(list: &mut List) {
     }
 }
 
-fn bounds(list: &mut List) {
+fn bounds(list: &mut Kept) {
     let mapped = [0, 0, 0, 0, 0, 0, 0, 0, 0, 0, 255, 255, 192, 0, 2, 7];
     for (stream, success) in [(good5(), 0), (good4(), 90)] {
         for family in [4, 6] {
@@ -379,7 +464,7 @@ fn bounds(list: &mut List) {
 
 // 1 below 262 bytes, for deliveries and answers; above 2,048 is as much as that. Nothing is used then, and no rest is
 // told.
-fn outputs(list: &mut List) {
+fn outputs(list: &mut Kept) {
     let lents = [0, 261, 262, 65535, 1, 263, 2047, 2048, 2049];
     for (stream, success, n) in [(good5(), 0, 9), (good4(), 90, 4)] {
         let (before, later) = stream.split_at(4);
@@ -398,7 +483,7 @@ fn outputs(list: &mut List) {
 }
 
 // 16 ahead of 1; nothing changes.
-fn turns(list: &mut List) {
+fn turns(list: &mut Kept) {
     for session in [0, 2, 4, 5, 7, 9].map(|n| sessions().remove(n)) {
         let (end, success, stream) = (session.end.clone(), session.success, session.stream());
         // an answer that is not awaited
@@ -408,11 +493,12 @@ fn turns(list: &mut List) {
         list.add(end.clone().piece(&stream[..1]).answer_lent(261, success, 4, BOUND, 1).flag(END));
         // a delivery, or the end of stream, while one is
         let asked = end.clone().piece(&stream);
-        let late = |case: Case| case.piece(b"ab").piece_lent(262, b"").piece_lent(261, b"lost").piece_lent(0, b"");
+        let late =
+            |case: Draft<SetUp>| case.piece(b"ab").piece_lent(262, b"").piece_lent(261, b"lost").piece_lent(0, b"");
         list.add(late(asked.clone()).flag(END));
         list.add(late(asked.clone()).answer_lent(261, success, 4, BOUND, 1).answer(success).piece(b"cd"));
         // any call to an end that is open or failed
-        let again = |case: Case| late(case).answer(success).answer_lent(0, 1, 6, BOUND, 1).flag(END);
+        let again = |case: Draft<SetUp>| late(case).answer(success).answer_lent(0, 1, 6, BOUND, 1).flag(END);
         list.add(again(asked.clone().answer(success)));
         list.add(again(asked.answer(2)));
         list.add(again(end.clone().piece(&[stream[0], 0])));
@@ -421,13 +507,13 @@ fn turns(list: &mut List) {
     list.add(again20(set(b"u", b"pw")));
 }
 
-fn again20(end: Case) -> Case {
+fn again20(end: Draft<SetUp>) -> Draft<SetUp> {
     let wrong = [greeting(&[2]), credentials(b"u", b"px")].concat();
     end.piece(&wrong).piece(&connect([5, 1, 0], &FOUR)).answer(0).piece_lent(0, b"lost").flag(END)
 }
 
 // An empty piece anywhere in turn.
-fn empties(list: &mut List) {
+fn empties(list: &mut Kept) {
     for session in [3, 9].map(|n| sessions().remove(n)) {
         let stream = session.stream();
         let mut all = session.end.clone().piece(b"");
@@ -441,7 +527,7 @@ fn empties(list: &mut List) {
 }
 
 // Much behind the last request, and behind a failure.
-fn tails(list: &mut List) {
+fn tails(list: &mut Kept) {
     let behind = vec![0xAB; 3000];
     for (end, stream) in [
         (bare(), good5()),
@@ -460,8 +546,8 @@ fn tails(list: &mut List) {
 
 // ---- the list
 
-fn cases() -> Vec<Case> {
-    let mut list = List::new();
+pub fn add(list: &mut Kept) {
+    let first = list.cases.len();
     let parts = [
         whole,
         cuts,
@@ -483,33 +569,7 @@ fn cases() -> Vec<Case> {
         empties,
         tails,
     ];
-    for part in parts {
-        part(&mut list);
-    }
-    let fill = CASES.saturating_sub(list.cases.len());
-    let small = |case: &Case| case.bytes().len() < SMALL;
-    (0..).map(|n| generate::case(1, n)).filter(small).take(fill).for_each(|case| list.add(case));
-    list.cases
-}
-
-// Writes the list and its answers, and says what it holds; fails where the original and the model differ.
-pub fn write(dir: &str) -> Result<(), String> {
-    let (mut stdin, mut stdout) = (vec![], String::new());
-    let mut figures = Figures::default();
-    let cases = cases();
-    for case in &cases {
-        let line = expect::expect(case)
-            .map_err(|told| format!("{}: {} but {told}", hex(&case.bytes()), model::answer(case).text()))?;
-        case.write(&mut stdin);
-        stdout += &(line.text() + "\n");
-        figures.add(case);
-    }
-    // a case that the program refuses, and what it must not reach
-    stdout += &format!("bad case at {}\n", stdin.len());
-    bare().piece(&good5()).answer_lent(262, 0, 5, BOUND, 80).write(&mut stdin);
-    bare().write(&mut stdin);
-    save(dir, &stdin, &stdout)?;
-    println!("{} cases, {} bytes, answers {} bytes", cases.len(), stdin.len(), stdout.len());
-    println!("{}", figures.text());
-    Ok(())
+    parts.iter().for_each(|part| part(list));
+    let fill = CASES.saturating_sub(list.cases.len() - first);
+    list.random(fill, |r| generate::in_order(b'P', r, 0), |case| case.bytes().len() <= SMALL);
 }
