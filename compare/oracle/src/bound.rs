@@ -2,7 +2,7 @@
 //! `replay`'s through whole sessions. `Display` writes some IPv6 addresses with a dotted tail. These are set aside: of
 //! them the text must have no dot, and the standard library must read it back.
 use crate::case::Case;
-use crate::compare::ask;
+use crate::compare::{Figures, ask};
 use crate::draft::*;
 use crate::draw::Random;
 use crate::model;
@@ -37,51 +37,18 @@ fn draw(seed: u64, number: u64) -> (Case, SocketAddr) {
     (case(version, bound), bound)
 }
 
-#[derive(Default)]
-struct Figures {
-    four: usize,
-    six: usize,
-    shortened: usize,
-    compatible: usize,
-    mapped: usize,
-    // not as the line about the dotted tail says
-    dotted: usize,
-    differences: usize,
-}
-
-impl Figures {
-    // Answers whether `Display` writes the address with a dotted tail.
-    fn add(&mut self, bound: SocketAddr) -> bool {
-        let IpAddr::V6(ip) = bound.ip() else {
-            self.four += 1;
-            return false;
-        };
-        let text = ip.to_string();
-        let dotted = text.contains('.');
-        let mapped = ip.segments()[..6] == [0, 0, 0, 0, 0, 0xFFFF];
-        self.six += 1;
-        self.shortened += usize::from(text.contains("::"));
-        self.mapped += usize::from(mapped && dotted);
-        self.dotted += usize::from(mapped != dotted);
-        self.compatible += usize::from(ip.segments()[..6] == [0; 6]);
-        dotted
-    }
-
-    fn text(&self) -> String {
-        format!(
-            "{} IPv4 addresses, {} of IPv6, {} of these shortened, {} IPv4-compatible\n\
-            {} IPv4-mapped, ::ffff:0:0/96, which Display writes with a dotted tail: set aside and read back\n\
-            {} others with a dotted tail, or IPv4-mapped ones without",
-            self.four, self.six, self.shortened, self.compatible, self.mapped, self.dotted
-        )
-    }
-
-    fn differ(&mut self, number: u64, bound: SocketAddr, [wanted, line, modelled]: [&str; 3]) {
-        self.differences += 1;
-        if self.differences <= SHOWN {
-            println!("difference: address {number}, Display {bound}");
-            println!("  expected {wanted}\n  line     {line}\n  model    {modelled}");
-        }
+// The address's kind, and whether `Display` writes it with a dotted tail.
+fn kind(bound: SocketAddr) -> (&'static str, bool) {
+    let IpAddr::V6(ip) = bound.ip() else {
+        return ("IPv4", false);
+    };
+    let text = ip.to_string();
+    match (ip.segments(), text.contains('.')) {
+        ([0, 0, 0, 0, 0, 0xFFFF, ..], true) => ("IPv4-mapped, with a dotted tail: set aside and read back", true),
+        (_, true) => ("others with a dotted tail", true),
+        ([0, 0, 0, 0, 0, 0, ..], _) => ("IPv4-compatible", false),
+        _ if text.contains("::") => ("IPv6, shortened", false),
+        _ => ("IPv6, whole", false),
     }
 }
 
@@ -98,38 +65,34 @@ fn wanted(bound: SocketAddr, aside: bool, line: &str) -> String {
     if aside { told(line).filter(reads).unwrap_or_default() } else { bound.to_string() }
 }
 
-// A line for each case: replay's, or the model's without it.
-fn lines(replay: Option<&str>, cases: &[Case]) -> Vec<String> {
-    match replay {
-        Some(replay) => ask(replay, cases),
-        None => cases.iter().map(model::text).collect(),
-    }
-}
-
 // Answers whether all is the same. With `plant`, one digit is put into the expected text from that number on, once.
 pub fn random(seed: u64, count: u64, replay: Option<&str>, mut plant: Option<u64>) -> bool {
-    let mut figures = Figures::default();
+    let (mut figures, mut differences) = (Figures::default(), 0);
     let all = count + count.div_ceil(SIXES);
     for start in (0..all).step_by(BATCH as usize) {
         let numbers = start..(start + BATCH).min(all);
         let (cases, drawn): (Vec<_>, Vec<_>) = numbers.clone().map(|n| draw(seed, n)).unzip();
-        let lines = lines(replay, &cases);
-        for (((number, case), bound), line) in numbers.zip(&cases).zip(drawn).zip(&lines) {
-            let aside = figures.add(bound);
+        let modelled: Vec<_> = cases.iter().map(model::text).collect();
+        let lines = replay.map_or(modelled.clone(), |replay| ask(replay, &cases));
+        for ((((number, case), bound), line), modelled) in numbers.zip(&cases).zip(drawn).zip(&lines).zip(&modelled) {
+            let (kind, aside) = kind(bound);
+            figures.one("addresses", kind);
             let mut text = wanted(bound, aside, line);
             if !aside && plant.take_if(|n| *n <= number).is_some() {
                 text.insert(1, '0');
             }
-            let modelled = model::text(case);
             let mut told = model::line(case);
             told.calls[2].text = Some(text.into_bytes());
             let wanted = told.text(&case.kind);
-            if *line != wanted || modelled != wanted {
-                figures.differ(number, bound, [&wanted, line, &modelled]);
+            if *line != wanted || *modelled != wanted {
+                differences += 1;
+                if differences <= SHOWN {
+                    println!("difference: address {number}, Display {bound}");
+                    println!("  expected {wanted}\n  line     {line}\n  model    {modelled}");
+                }
             }
         }
     }
-    println!("{}", figures.text());
-    println!("seed {seed}: {all} addresses, {} differences", figures.differences);
-    figures.differences == 0 && figures.dotted == 0
+    println!("{}\nseed {seed}: {all} addresses, {differences} differences", figures.text());
+    differences == 0
 }

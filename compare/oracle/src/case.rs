@@ -104,44 +104,83 @@ impl Call {
             Call::Answer(..) => b'a',
         }
     }
+}
 
-    pub fn lent(&mut self) -> Option<&mut u16> {
+// ---- its parts, in the order of its frame
+
+pub enum Part<'a> {
+    // a kind, a version, a number of parts, a call's letter
+    Fixed(Vec<u8>),
+    // with the values that are plain
+    Flags(&'a mut u8),
+    Byte(&'a mut u8, &'static [u8]),
+    Number(&'a mut u16, u16),
+    Address(&'a mut [u8; 16]),
+    Text(&'a mut Vec<u8>, u8),
+}
+use Part::*;
+
+impl Part<'_> {
+    // A text's without its length.
+    pub fn bytes(&self) -> Vec<u8> {
         match self {
-            Call::Start(lent) | Call::Piece(lent, _) | Call::Bound(lent) | Call::Answer(lent, _) => Some(lent),
-            Call::End | Call::Attempts => None,
+            Fixed(bytes) => bytes.clone(),
+            Flags(byte) | Byte(byte, _) => vec![**byte],
+            Number(n, _) => n.to_be_bytes().to_vec(),
+            Address(bytes) => bytes.to_vec(),
+            Text(text, _) => text.to_vec(),
+        }
+    }
+
+    pub fn set(&mut self, bytes: &[u8]) {
+        match self {
+            Fixed(_) => {}
+            Flags(byte) | Byte(byte, _) => **byte = bytes[0],
+            Number(n, _) => **n = u16::from_be_bytes([bytes[0], bytes[1]]),
+            Address(address) => address.copy_from_slice(bytes),
+            Text(text, _) => **text = bytes.to_vec(),
+        }
+    }
+
+    // How far it is from plain.
+    pub fn odd(&self) -> usize {
+        let other = |bytes: &[u8], plain: u8| bytes.iter().filter(|b| **b != plain).count();
+        match self {
+            Fixed(_) => 0,
+            Flags(byte) => byte.count_ones() as usize,
+            Byte(byte, plain) => usize::from(!plain.contains(byte)),
+            Number(n, plain) => usize::from(**n != *plain),
+            Address(bytes) => other(&bytes[..], 0),
+            Text(text, plain) => other(text, *plain),
         }
     }
 }
 
-// ---- its frame
-
-fn write_text(out: &mut Vec<u8>, bytes: &[u8]) {
-    out.extend((bytes.len() as u16).to_be_bytes());
-    out.extend(bytes);
-}
-
-fn write_proxy(out: &mut Vec<u8>, opening: &Opening) {
-    out.extend([opening.version, opening.flags]);
-    out.extend(opening.port.to_be_bytes());
-    [&opening.host, &opening.user, &opening.password].iter().for_each(|text| write_text(out, text));
-}
-
-fn write_record(out: &mut Vec<u8>, (family, address): &Record) {
-    out.push(*family);
-    out.extend(address);
-}
-
-fn write_call(out: &mut Vec<u8>, call: &Call) {
-    out.push(call.letter());
-    out.extend(call.clone().lent().map(|lent| lent.to_be_bytes()).into_iter().flatten());
-    match call {
-        Call::Piece(_, piece) => write_text(out, piece),
-        Call::Answer(_, answer) => {
-            out.push(answer.status);
-            write_record(out, &answer.bound);
-            out.extend(answer.port.to_be_bytes());
+impl Opening {
+    fn parts(&mut self, with_records: bool) -> Vec<Part<'_>> {
+        let mut all = vec![Fixed(vec![self.version]), Flags(&mut self.flags), Number(&mut self.port, 443)];
+        all.extend([&mut self.host, &mut self.user, &mut self.password].map(|text| Text(text, b'a')));
+        if with_records {
+            all.push(Fixed(vec![self.records.len() as u8]));
+            all.extend(self.records.iter_mut().flat_map(|(family, bytes)| [Byte(family, &[4]), Address(bytes)]));
         }
-        _ => {}
+        all
+    }
+}
+
+impl Call {
+    fn parts(&mut self) -> Vec<Part<'_>> {
+        let mut all = vec![Fixed(vec![self.letter()])];
+        match self {
+            Call::Start(lent) | Call::Bound(lent) => all.push(Number(lent, MOST_LENT)),
+            Call::Piece(lent, piece) => all.extend([Number(lent, MOST_LENT), Text(piece, 0)]),
+            Call::Answer(lent, Answer { status, bound: (family, bytes), port }) => {
+                all.extend([Number(lent, MOST_LENT), Byte(status, &[0, 90]), Byte(family, &[4]), Address(bytes)]);
+                all.push(Number(port, 443));
+            }
+            Call::End | Call::Attempts => {}
+        }
+        all
     }
 }
 
@@ -155,39 +194,56 @@ impl Case {
         }
     }
 
-    // Its bytes, without the frame's length.
-    pub fn bytes(&self) -> Vec<u8> {
-        let mut out = vec![self.letter()];
-        match &self.kind {
+    pub fn parts(&mut self) -> Vec<Part<'_>> {
+        let mut all = vec![Fixed(vec![self.letter()])];
+        match &mut self.kind {
             Kind::Text(_, text) => {
-                write_text(&mut out, text);
-                return out;
+                all.push(Text(text, b'a'));
+                return all;
             }
-            Kind::Session(opening) => {
-                write_proxy(&mut out, opening);
-                out.push(opening.records.len() as u8);
-                opening.records.iter().for_each(|record| write_record(&mut out, record));
+            Kind::Session(opening) => all.extend(opening.parts(true)),
+            Kind::Route(Route { flags, port, host, proxies }, lent) => {
+                all.extend([Flags(flags), Number(port, 443), Text(host, b'a'), Fixed(vec![proxies.len() as u8])]);
+                all.extend(proxies.iter_mut().flat_map(|proxy| proxy.parts(false)));
+                all.push(Number(lent, MOST_LENT));
             }
-            Kind::Route(route, lent) => {
-                out.push(route.flags);
-                out.extend(route.port.to_be_bytes());
-                write_text(&mut out, &route.host);
-                out.push(route.proxies.len() as u8);
-                route.proxies.iter().for_each(|proxy| write_proxy(&mut out, proxy));
-                out.extend(lent.to_be_bytes());
-            }
-            Kind::End(set_up) => {
-                out.push(set_up.flags);
-                [&set_up.user, &set_up.password].iter().for_each(|text| write_text(&mut out, text));
+            Kind::End(SetUp { flags, user, password }) => {
+                all.extend([Flags(flags), Text(user, b'a'), Text(password, b'a')]);
             }
         }
-        out.extend((self.calls.len() as u16).to_be_bytes());
-        self.calls.iter().for_each(|call| write_call(&mut out, call));
+        all.push(Fixed((self.calls.len() as u16).to_be_bytes().to_vec()));
+        all.extend(self.calls.iter_mut().flat_map(Call::parts));
+        all
+    }
+
+    // Without the frame's length.
+    pub fn bytes(&self) -> Vec<u8> {
+        let mut out = vec![];
+        for part in self.clone().parts() {
+            if let Text(text, _) = &part {
+                out.extend((text.len() as u16).to_be_bytes());
+            }
+            out.extend(part.bytes());
+        }
         out
     }
 
     pub fn frame(&self) -> Vec<u8> {
         frame(&self.bytes())
+    }
+
+    // Cut at its longest texts until it fits its frame.
+    pub fn fit(mut self) -> Case {
+        loop {
+            let over = self.bytes().len().saturating_sub(MOST_BYTES);
+            if over == 0 {
+                return self;
+            }
+            let texts = self.parts().into_iter().filter(|part| matches!(part, Text(..)));
+            let mut longest = texts.max_by_key(|part| part.bytes().len()).expect("a text");
+            let bytes = longest.bytes();
+            longest.set(&bytes[..bytes.len().saturating_sub(over)]);
+        }
     }
 }
 
@@ -269,84 +325,6 @@ impl Case {
         let n = if letters.is_empty() { 0 } else { number(left)? };
         let calls = (0..n).map(|_| call(left, letters)).collect::<Option<_>>()?;
         left.is_empty().then_some(Case { kind, calls })
-    }
-}
-
-// ---- its parts, to change them
-
-impl Case {
-    pub fn texts<'a>(&'a mut self) -> Vec<&'a mut Vec<u8>> {
-        let mut all: Vec<&'a mut Vec<u8>> = match &mut self.kind {
-            Kind::Text(_, text) => vec![text],
-            Kind::Session(o) => vec![&mut o.host, &mut o.user, &mut o.password],
-            Kind::Route(route, _) => {
-                let of = |proxy: &'a mut Opening| [&mut proxy.host, &mut proxy.user, &mut proxy.password];
-                [&mut route.host].into_iter().chain(route.proxies.iter_mut().flat_map(of)).collect()
-            }
-            Kind::End(set_up) => vec![&mut set_up.user, &mut set_up.password],
-        };
-        all.extend(self.calls.iter_mut().filter_map(|call| match call {
-            Call::Piece(_, piece) => Some(piece),
-            _ => None,
-        }));
-        all
-    }
-
-    pub fn flags(&mut self) -> Vec<&mut u8> {
-        match &mut self.kind {
-            Kind::Text(..) => vec![],
-            Kind::Session(opening) => vec![&mut opening.flags],
-            Kind::Route(route, _) => {
-                [&mut route.flags].into_iter().chain(route.proxies.iter_mut().map(|proxy| &mut proxy.flags)).collect()
-            }
-            Kind::End(set_up) => vec![&mut set_up.flags],
-        }
-    }
-
-    pub fn ports(&mut self) -> Vec<&mut u16> {
-        let mut all = match &mut self.kind {
-            Kind::Text(..) | Kind::End(_) => vec![],
-            Kind::Session(opening) => vec![&mut opening.port],
-            Kind::Route(route, _) => {
-                [&mut route.port].into_iter().chain(route.proxies.iter_mut().map(|proxy| &mut proxy.port)).collect()
-            }
-        };
-        all.extend(self.calls.iter_mut().filter_map(|call| match call {
-            Call::Answer(_, answer) => Some(&mut answer.port),
-            _ => None,
-        }));
-        all
-    }
-
-    pub fn lents(&mut self) -> Vec<&mut u16> {
-        let own = match &mut self.kind {
-            Kind::Route(_, lent) => Some(lent),
-            _ => None,
-        };
-        own.into_iter().chain(self.calls.iter_mut().filter_map(Call::lent)).collect()
-    }
-
-    pub fn records(&mut self) -> Vec<&mut Record> {
-        let own = match &mut self.kind {
-            Kind::Session(opening) => &mut opening.records[..],
-            _ => &mut [],
-        };
-        let bound = self.calls.iter_mut().filter_map(|call| match call {
-            Call::Answer(_, answer) => Some(&mut answer.bound),
-            _ => None,
-        });
-        own.iter_mut().chain(bound).collect()
-    }
-
-    // Cut at its longest texts until it fits its frame.
-    pub fn fit(mut self) -> Case {
-        loop {
-            let over = self.bytes().len().saturating_sub(MOST_BYTES);
-            let Some(longest) = self.texts().into_iter().max_by_key(|text| text.len()).filter(|_| over > 0) else {
-                return self;
-            };
-            longest.truncate(longest.len().saturating_sub(over));
-        }
     }
 }
 

@@ -116,8 +116,12 @@ fn sorted(row: &BTreeMap<String, usize>) -> String {
 }
 
 impl Figures {
-    fn one(&mut self, row: &'static str, name: impl ToString) {
+    pub fn one(&mut self, row: &'static str, name: impl ToString) {
         *self.rows.entry(row).or_default().entry(name.to_string()).or_default() += 1;
+    }
+
+    pub fn sum(&mut self, row: &'static str, n: usize) {
+        *self.most.entry(row).or_default() += n;
     }
 
     fn most(&mut self, row: &'static str, n: usize) {
@@ -126,7 +130,7 @@ impl Figures {
     }
 
     pub fn add(&mut self, case: &Case, teller: Teller) {
-        *self.most.entry("bytes in all").or_default() += case.bytes().len();
+        self.sum("bytes in all", case.bytes().len());
         if let Kind::Text(letter, _) = &case.kind {
             let line = model::text(case);
             let answer = if *letter == b'H' { if line.len() == 1 { "none" } else { "bytes" } } else { &line[..1] };
@@ -179,24 +183,24 @@ impl Figures {
     }
 }
 
-pub fn counts<T: std::fmt::Display>(of: &BTreeMap<T, usize>) -> String {
-    of.iter().map(|(n, count)| format!("{n}: {count}")).collect::<Vec<_>>().join(", ")
-}
-
 // ---- a run
 
 pub struct Run {
     pub seed: u64,
     // none: the original and the model alone
-    pub program: Option<String>,
-    pub plant: Option<u64>,
+    program: Option<String>,
+    plant: Option<u64>,
     pub differences: usize,
     shown: Vec<Case>,
 }
 
 impl Run {
+    pub fn new(seed: u64, program: Option<&str>, plant: Option<u64>) -> Run {
+        Run { seed, program: program.map(String::from), plant, differences: 0, shown: vec![] }
+    }
+
     // A difference, cut to its smallest input; told once if several come to the same.
-    fn show(&mut self, number: u64, case: &Case, differs: Differs, rows: &dyn Fn(&Case) -> [String; 2]) {
+    pub fn show(&mut self, number: u64, case: &Case, differs: Differs, rows: &dyn Fn(&Case) -> [String; 2]) {
         self.differences += 1;
         if self.differences > SHOWN {
             return;
@@ -320,7 +324,7 @@ fn endings(program: &str, kind: u8, seed: u64) -> usize {
 
 // Answers whether all is the same. Without the program: the original and the model alone.
 pub fn random(kind: u8, seed: u64, count: u64, program: Option<&str>, plant: Option<u64>) -> bool {
-    let mut run = Run { seed, program: program.map(String::from), plant, differences: 0, shown: vec![] };
+    let mut run = Run::new(seed, program, plant);
     let (mut figures, mut told) = (Figures::default(), Instant::now());
     for start in (0..count).step_by(BATCH as usize) {
         let end = (start + BATCH).min(count);

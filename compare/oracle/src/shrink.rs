@@ -2,10 +2,10 @@
 use crate::case::*;
 
 // Only the first parts are tried one by one.
-const TRIED: usize = 40;
+const TRIED: usize = 200;
 
 // A text without so many bytes at either end: all, a half, a quarter and so on.
-fn shorter(text: &[u8], _: u8) -> Vec<Vec<u8>> {
+fn shorter(text: &[u8]) -> Vec<Vec<u8>> {
     let mut all = vec![];
     let mut n = text.len();
     while n > 0 {
@@ -41,32 +41,23 @@ fn fewer<T: Clone>(list: &[T]) -> Vec<Vec<T>> {
     all
 }
 
-// The byte that is plain in each of the texts: pieces come behind the others.
-fn plain_byte(case: &mut Case, text: usize) -> u8 {
-    let pieces = case.calls.iter().filter(|call| call.letter() == b'd').count();
-    if text < case.texts().len() - pieces { b'a' } else { 0 }
+// What a part may become: fewer bytes, or else plainer ones.
+fn ways(part: &Part, coarse: bool) -> Vec<Vec<u8>> {
+    match part {
+        Part::Text(text, _) if coarse => shorter(text),
+        _ if coarse => vec![],
+        Part::Text(text, plain) => plainer(text, *plain),
+        Part::Flags(flags) => (0..8).map(|bit| vec![**flags & !(1 << bit)]).collect(),
+        Part::Byte(_, plain) => plain.iter().map(|byte| vec![*byte]).collect(),
+        Part::Number(_, plain) => vec![plain.to_be_bytes().to_vec()],
+        Part::Address(_) => vec![vec![0; 16]],
+        Part::Fixed(_) => vec![],
+    }
 }
 
 // Few bytes, then plain values.
 fn size(case: &Case) -> usize {
-    let (mut copy, bytes) = (case.clone(), case.bytes().len());
-    let plain: Vec<u8> = (0..copy.texts().len()).map(|i| plain_byte(&mut copy, i)).collect();
-    let texts = copy.texts().into_iter().zip(plain);
-    let odd = texts.map(|(text, plain)| text.iter().filter(|b| **b != plain).count()).sum::<usize>()
-        + copy.flags().iter().map(|flags| flags.count_ones() as usize).sum::<usize>()
-        + copy.ports().iter().filter(|port| ***port != 443).count()
-        + copy.lents().iter().filter(|lent| ***lent != MOST_LENT).count()
-        + copy
-            .records()
-            .iter()
-            .map(|(family, a)| a.iter().filter(|b| **b != 0).count() + usize::from(*family / 6))
-            .sum::<usize>()
-        + copy
-            .calls
-            .iter()
-            .filter(|call| matches!(call, Call::Answer(_, answer) if ![0, 90].contains(&answer.status)))
-            .count();
-    1000 * bytes + odd
+    1000 * case.bytes().len() + case.clone().parts().iter().map(Part::odd).sum::<usize>()
 }
 
 // Copies of a case, each changed, as far as that makes it smaller.
@@ -81,11 +72,9 @@ impl Smaller<'_> {
         }
     }
 
-    fn texts(&mut self, ways: fn(&[u8], u8) -> Vec<Vec<u8>>) {
-        let mut copy = self.0.clone();
-        for i in 0..copy.texts().len().min(TRIED) {
-            let plain = plain_byte(&mut copy, i);
-            ways(copy.texts()[i], plain).into_iter().for_each(|text| self.add(|c| *c.texts()[i] = text));
+    fn parts(&mut self, coarse: bool) {
+        for (i, part) in self.0.clone().parts().iter().enumerate().take(TRIED) {
+            ways(part, coarse).iter().for_each(|bytes| self.add(|c| c.parts()[i].set(bytes)));
         }
     }
 
@@ -110,31 +99,7 @@ impl Smaller<'_> {
             }),
             _ => {}
         }
-        self.texts(shorter);
-    }
-
-    // By single bytes left out and values made plain.
-    fn fine(&mut self) {
-        let mut copy = self.0.clone();
-        for i in 0..copy.flags().len().min(TRIED) {
-            (0..8).for_each(|bit| self.add(|c| *c.flags()[i] &= !(1 << bit)));
-        }
-        (0..copy.ports().len().min(TRIED)).for_each(|i| self.add(|c| *c.ports()[i] = 443));
-        (0..copy.lents().len().min(TRIED)).for_each(|i| self.add(|c| *c.lents()[i] = MOST_LENT));
-        for i in 0..copy.records().len().min(TRIED) {
-            self.add(|c| c.records()[i].0 = 4);
-            self.add(|c| c.records()[i].1 = [0; 16]);
-        }
-        for i in 0..copy.calls.len().min(TRIED) {
-            for plain in [0, 90] {
-                self.add(|c| {
-                    if let Call::Answer(_, answer) = &mut c.calls[i] {
-                        answer.status = plain;
-                    }
-                });
-            }
-        }
-        self.texts(plainer);
+        self.parts(true);
     }
 }
 
@@ -146,7 +111,7 @@ fn smaller(case: &Case, coarse: bool) -> Vec<Case> {
     if coarse {
         all.coarse()
     } else {
-        all.fine()
+        all.parts(false)
     }
     all.1.sort_by_cached_key(size);
     all.1

@@ -232,8 +232,12 @@ pub fn end(of: &SetUp) -> End<'_> {
 
 impl End<'_> {
     // 16 for a call out of turn, then 1 for too little output.
-    fn refused(&self, turn: Outcome, lends: Option<u16>) -> Option<u8> {
-        let short = lends.is_some_and(|n| lent(n) < OUTPUT);
+    fn refused(&self, call: &Call) -> Option<u8> {
+        let (turn, short) = match call {
+            Call::Answer(n, _) => (Outcome::Asked, lent(*n) < OUTPUT),
+            Call::Piece(n, _) => (Outcome::Waiting, lent(*n) < OUTPUT),
+            _ => (Outcome::Waiting, false),
+        };
         if self.now.outcome != turn { Some(16) } else { short.then_some(1) }
     }
 }
@@ -244,11 +248,7 @@ impl Side for End<'_> {
     }
 
     fn call(&mut self, call: &Call) -> u8 {
-        let refused = match call {
-            Call::Answer(lent, _) => self.refused(Outcome::Asked, Some(*lent)),
-            call => self.refused(Outcome::Waiting, call.clone().lent().copied()),
-        };
-        if let Some(number) = refused {
+        if let Some(number) = self.refused(call) {
             return number;
         }
         match call {
