@@ -82,41 +82,57 @@ impl<K> DerefMut for Draft<K> {
     }
 }
 
+// Each of these gives another draft.
 impl<K: Drafted> Draft<K> {
     pub fn new(of: K) -> Self {
         Draft { of, lent: K::ENOUGH, calls: vec![], last: 0, text_lent: 0 }
     }
 
-    pub fn flag(mut self, flags: u8) -> Self {
-        self.last |= flags & K::LAST;
-        *self.of.flags() |= flags & !K::LAST;
-        self
+    pub fn but(&self, change: impl FnOnce(&mut Self)) -> Self {
+        let mut other = self.clone();
+        change(&mut other);
+        other
     }
 
-    pub fn lent(mut self, lent: u16) -> Self {
-        self.lent = lent;
-        self
+    pub fn flag(&self, flags: u8) -> Self {
+        self.but(|other| {
+            other.last |= flags & K::LAST;
+            *other.of.flags() |= flags & !K::LAST;
+        })
+    }
+
+    pub fn lent(&self, lent: u16) -> Self {
+        self.but(|other| other.lent = lent)
     }
 
     // A delivery that lends so much.
-    pub fn piece_lent(mut self, lent: u16, piece: &[u8]) -> Self {
-        self.calls.push(Call::Piece(lent, piece.to_vec()));
-        self
+    pub fn piece_lent(&self, lent: u16, piece: &[u8]) -> Self {
+        self.but(|other| other.calls.push(Call::Piece(lent, piece.to_vec())))
     }
 
-    pub fn piece(self, piece: &[u8]) -> Self {
+    pub fn piece(&self, piece: &[u8]) -> Self {
         self.piece_lent(K::ENOUGH, piece)
     }
 
-    pub fn each_byte(self, stream: &[u8]) -> Self {
-        stream.iter().fold(self, |case, b| case.piece(&[*b]))
+    pub fn pieces<'a>(&self, pieces: impl IntoIterator<Item = &'a [u8]>) -> Self {
+        let all = pieces.into_iter().map(|piece| Call::Piece(K::ENOUGH, piece.to_vec()));
+        self.but(|other| other.calls.extend(all))
     }
 
-    pub fn case(self) -> Case {
-        let mut calls = self.calls;
+    pub fn each_byte(&self, stream: &[u8]) -> Self {
+        self.pieces(stream.chunks(1))
+    }
+
+    // In two at every byte.
+    pub fn halves(&self, stream: &[u8]) -> Vec<Self> {
+        (1..stream.len()).map(|n| self.piece(&stream[..n]).piece(&stream[n..])).collect()
+    }
+
+    pub fn case(&self) -> Case {
+        let mut calls = self.calls.clone();
         let last = [(END, Call::End), (TEXT, Call::Bound(self.text_lent)), (ATTEMPTS, Call::Attempts)];
         calls.extend(last.into_iter().filter(|(flag, _)| self.last & flag != 0).map(|(_, call)| call));
-        self.of.case(self.lent, calls).fit()
+        self.of.clone().case(self.lent, calls).fit()
     }
 }
 

@@ -26,6 +26,14 @@ impl Kept {
         self.put(draft.case());
     }
 
+    fn all<K: Drafted>(&mut self, drafts: impl IntoIterator<Item = Draft<K>>) {
+        drafts.into_iter().for_each(|draft| self.add(draft));
+    }
+
+    fn parts(&mut self, parts: &[fn(&mut Kept)]) {
+        parts.iter().for_each(|part| part(self));
+    }
+
     fn put(&mut self, case: Case) {
         if self.seen.insert(case.bytes()) {
             self.cases.push(case);
@@ -41,6 +49,12 @@ impl Kept {
         let drawn = (0..).map(|number| draw(&mut Random::new(1, number)));
         drawn.filter(wanted).take(n).for_each(|case| self.put(case));
     }
+}
+
+// Bytes in hexadecimal, split by blanks.
+fn hexes(texts: &str) -> Vec<Vec<u8>> {
+    let byte = |two: &[u8]| u8::from_str_radix(std::str::from_utf8(two).unwrap(), 16).unwrap();
+    texts.split_whitespace().map(|text| text.as_bytes().chunks(2).map(byte).collect()).collect()
 }
 
 // Writes the list and its answers, and says what it holds; fails where the original and the model differ.

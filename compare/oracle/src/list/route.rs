@@ -1,7 +1,7 @@
 //! Routes of the kept list: every number that a route can meet, both versions mixed, cuts across the border of two
 //! proxies.
-use super::Kept;
 use super::session::{IPV6_REPLY, OPENS4, SHORT_NAME, good as good_session};
+use super::{Kept, hexes};
 use crate::case::*;
 use crate::draft::*;
 use crate::generate;
@@ -40,40 +40,37 @@ fn proxy(word: &str, n: u16) -> Opening {
 
 impl Draft<Route> {
     // Of the destination.
-    fn host(self, host: &[u8]) -> Draft<Route> {
-        let last = self.proxies.len();
-        self.asking(last, host)
+    fn host(&self, host: &[u8]) -> Self {
+        self.asking(self.proxies.len(), host)
     }
 
     // What the proxy of this number, from 1, is asked for; that of 0 is the first proxy's own host.
-    fn asking(mut self, number: usize, host: &[u8]) -> Draft<Route> {
-        match self.proxies.get_mut(number) {
+    fn asking(&self, number: usize, host: &[u8]) -> Self {
+        self.but(|other| match other.proxies.get_mut(number) {
             Some(next) => next.host = host.to_vec(),
-            None => self.host = host.to_vec(),
-        }
-        self
+            None => other.host = host.to_vec(),
+        })
     }
 
     // As above: without the port that goes with that host.
-    fn portless(mut self, number: usize) -> Draft<Route> {
-        match self.proxies.get_mut(number) {
+    fn portless(&self, number: usize) -> Self {
+        self.but(|other| match other.proxies.get_mut(number) {
             Some(next) => next.flags &= !PORT,
-            None => self.flags &= !PORT,
-        }
-        self
+            None => other.flags &= !PORT,
+        })
     }
 
     // Of the proxy of this number, from 1.
-    fn credentials(mut self, number: usize, user: usize, password: usize) -> Draft<Route> {
-        let proxy = &mut self.proxies[number - 1];
-        (proxy.user, proxy.password) = (vec![b'u'; user], vec![b'p'; password]);
-        proxy.flags |= CREDENTIALS;
-        self
+    fn credentials(&self, number: usize, user: usize, password: usize) -> Self {
+        self.but(|other| {
+            let proxy = &mut other.proxies[number - 1];
+            (proxy.user, proxy.password) = (vec![b'u'; user], vec![b'p'; password]);
+            proxy.flags |= CREDENTIALS;
+        })
     }
 
-    pub fn served(self) -> Draft<Route> {
-        let replies = good(&self).concat();
-        self.piece(&replies)
+    pub fn served(&self) -> Self {
+        self.piece(&good(self).concat())
     }
 }
 
@@ -86,39 +83,23 @@ fn asked(route: &Route) -> u16 {
     route_asks(route) as u16
 }
 
-const CHAINS: [&str; 15] = [
-    "5",
-    "4",
-    "5c",
-    "5co",
-    "5 4",
-    "4 5",
-    "5c 5co",
-    "4 5o",
-    "5co 4",
-    "5 4 5c",
-    "4 5co 4",
-    "5o 5c 5",
-    "5 4 5c 4 5o 5co 4 5",
-    "4 4 4 4 4 4 4 4",
-    "5co 5c 5o 5 5co 5c 5o 5co",
-];
+// Split by bars.
+const CHAINS: &str = "5|4|5c|5co|5 4|4 5|5c 5co|4 5o|5co 4|5 4 5c|4 5co 4|5o 5c 5|5 4 5c 4 5o 5co 4 5|4 4 4 4 4 4 4 4|\
+    5co 5c 5o 5 5co 5c 5o 5co";
 
 // ---- replies that open
 
 // Nothing yet; all at once with more behind; each proxy's replies in a piece of their own; byte by byte.
 fn whole(list: &mut Kept) {
-    for text in CHAINS {
+    for text in CHAINS.split('|') {
         let route = chain(text);
         let replies = good(&route);
         let stream = replies.concat();
-        list.add(route.clone().flag(END | ATTEMPTS));
-        list.add(route.clone().piece(&stream).flag(ATTEMPTS));
-        list.add(route.clone().piece(&[&stream, &b"SDF"[..]].concat()).piece(b"more").flag(END));
-        let each = replies.iter().fold(route.clone(), |route, reply| route.piece(reply));
-        list.add(each.flag(ATTEMPTS));
-        list.add(route.clone().each_byte(&stream).piece(b"SDF").flag(ATTEMPTS));
-        list.add(route.piece(&stream[..stream.len() - 1]).flag(ATTEMPTS));
+        list.all([route.flag(END | ATTEMPTS), route.piece(&stream).flag(ATTEMPTS)]);
+        list.add(route.piece(&[&stream, &b"SDF"[..]].concat()).piece(b"more").flag(END));
+        let route = route.flag(ATTEMPTS);
+        list.all([route.pieces(replies.iter().map(|reply| &reply[..])), route.each_byte(&stream).piece(b"SDF")]);
+        list.add(route.piece(&stream[..stream.len() - 1]));
     }
 }
 
@@ -126,11 +107,7 @@ fn whole(list: &mut Kept) {
 fn cuts(list: &mut Kept) {
     for text in ["5 4", "4 5", "5c 5co"] {
         let route = chain(text).flag(ATTEMPTS);
-        let stream = [&good(&route).concat()[..], b"S"].concat();
-        for n in 1..stream.len() {
-            let (before, later) = stream.split_at(n);
-            list.add(route.clone().piece(before).piece(later));
-        }
+        list.all(route.halves(&[&good(&route).concat()[..], b"S"].concat()));
     }
 }
 
@@ -141,16 +118,15 @@ fn borders(list: &mut Kept) {
         let (asked, stream) = (asked(&route), good(&route).concat());
         let border = good(&route)[0].len();
         let (before, later) = stream.split_at(border);
-        list.add(route.clone().piece(before));
-        list.add(route.clone().piece(before).flag(END));
-        list.add(route.clone().piece(before).piece(b"").piece(later));
-        list.add(route.clone().piece(before).piece_lent(asked - 1, later).flag(END));
-        list.add(route.clone().piece_lent(asked - 1, before).piece_lent(asked, before).piece_lent(asked, later));
+        let first = route.piece(before);
+        list.all([first.clone(), first.flag(END), first.piece(b"").piece(later)]);
+        list.add(first.piece_lent(asked - 1, later).flag(END));
+        list.add(route.piece_lent(asked - 1, before).piece_lent(asked, before).piece_lent(asked, later));
         for n in 1..=3 {
-            let first = route.clone().piece(&stream[..border + n]);
+            let first = route.piece(&stream[..border + n]);
             list.add(if n == 2 { first.flag(END) } else { first });
             let (start, end) = (&stream[..border - n], &stream[border + n..]);
-            list.add(route.clone().piece(start).piece(&stream[border - n..border + n]).piece(end));
+            list.add(route.piece(start).piece(&stream[border - n..border + n]).piece(end));
         }
     }
     // the end of the first, all of the second and the start of the third in one piece
@@ -160,7 +136,7 @@ fn borders(list: &mut Kept) {
         let (first, last) = (replies[0].len(), stream.len() - replies[2].len());
         for n in [1, 2, 7] {
             let (start, end) = (first - n, last + n);
-            list.add(route.clone().piece(&stream[..start]).piece(&stream[start..end]).piece(&stream[end..]));
+            list.add(route.piece(&stream[..start]).piece(&stream[start..end]).piece(&stream[end..]));
         }
     }
 }
@@ -170,13 +146,8 @@ fn long_replies(list: &mut Kept) {
     let name = [&[5, 0, 5, 0, 0, 3, 255], &[b'n'; 255][..], &[0, 80]].concat();
     let route = chain("5 4 5").flag(ATTEMPTS);
     let stream = [&name[..], &OPENS4, &name, &[0xAB; 600]].concat();
-    for n in [262, 263, 264, 265, 272, 536] {
-        let (before, later) = stream.split_at(n);
-        list.add(route.clone().piece(before).piece(later));
-    }
-    list.add(route.clone().piece(&stream));
-    list.add(route.clone().each_byte(&stream[..538]));
-    list.add(stream.chunks(100).fold(route.clone(), |route, piece| route.piece(piece)));
+    list.all([262, 263, 264, 265, 272, 536].map(|n| route.piece(&stream[..n]).piece(&stream[n..])));
+    list.all([route.piece(&stream), route.each_byte(&stream[..538]), route.pieces(stream.chunks(100))]);
     list.add(chain("4 4").piece(&[&OPENS4[..], &OPENS4, &[7; 3000]].concat()));
     list.add(chain("4").piece(&[&OPENS4[..], &OPENS4, &[4; 2000]].concat()));
     let six = [&[5, 0], &IPV6_REPLY[..]].concat();
@@ -188,22 +159,14 @@ fn long_replies(list: &mut Kept) {
 
 // What the last of these openings may be answered, beside success: 10, 12, 13, 14, and 15 with its statuses.
 fn failing(text: &str) -> Vec<Vec<u8>> {
-    let address = &SHORT_NAME[3..];
-    let connect = |start: &[u8], status: u8| [start, &[5, status, 0], address].concat();
-    let garbled = [&[5, 9, 0][..], &[5, 0, 1], &[5, 0, 0, 2, 0], &[5, 0, 0, 3, 0], &[5, 0, 0, 3, 1, 0xFF, 0, 80]];
+    let refused = (1..=8).map(|status| [&[5, 0, 5, status, 0], &SHORT_NAME[3..]].concat());
     match text {
-        "4" => [(0, 91), (0, 92), (0, 93), (0, 89), (0, 94), (4, 90)]
-            .map(|(first, code)| [&[first, code], &OPENS4[2..]].concat())
-            .to_vec(),
+        "4" => hexes("005B 005C 005D 0059 005E 045A").iter().map(|start| [start, &OPENS4[2..]].concat()).collect(),
         "5" => {
-            let mut all = [[5, 0xFF], [5, 2], [5, 1], [4, 0]].map(Vec::from).to_vec();
-            all.extend((1..=8).map(|status| connect(&[5, 0], status)));
-            all.extend(garbled.map(|reply| [&[5, 0], reply].concat()));
-            all
+            let garbled = "0500050900 0500050001 05000500000200 05000500000300 05000500000301FF0050";
+            hexes("05FF 0502 0501 0400").into_iter().chain(refused).chain(hexes(garbled)).collect()
         }
-        _ => {
-            [&[5, 0][..], &[5, 0xFF], &[5, 2, 1, 7], &[5, 2, 0, 0], &connect(&[5, 2, 1, 0], 5)].map(Vec::from).to_vec()
-        }
+        _ => hexes("0500 05FF 05020107 05020000 050201000505000301780050"),
     }
 }
 
@@ -232,9 +195,7 @@ fn failures(list: &mut Kept) {
     // 9 behind every reply of a route, and inside one
     let route = chain("5c 4 5o").flag(END | ATTEMPTS);
     let stream = good(&route).concat();
-    for n in [0, 1, 2, 4, 11, 12, 13, 19, 20, 21, 22, 29, 30] {
-        list.add(route.clone().piece(&stream[..n]));
-    }
+    list.all([0, 1, 2, 4, 11, 12, 13, 19, 20, 21, 22, 29, 30].map(|n| route.piece(&stream[..n])));
 }
 
 // Open, failed, refused: every delivery is 16 then, and its piece is a rest if it lends enough.
@@ -246,10 +207,9 @@ fn settled(list: &mut Kept) {
         let late = |route: Draft<Route>| {
             route.piece(b"").piece_lent(asked, b"xy").piece_lent(asked - 1, b"lost").piece_lent(0, b"").flag(END)
         };
-        list.add(late(route.clone().piece(&good(&route).concat())));
-        list.add(late(route.clone().piece(&failed)).flag(ATTEMPTS));
-        list.add(late(route.clone().lent(asked - 1)).flag(ATTEMPTS));
-        list.add(late(route.clone().host(b"a b")).flag(ATTEMPTS));
+        list.add(late(route.served()));
+        let all = [route.piece(&failed), route.lent(asked - 1), route.host(b"a b")];
+        list.all(all.map(|route| late(route.flag(ATTEMPTS))));
         list.add(late(route));
     }
 }
@@ -262,14 +222,12 @@ fn numbers(list: &mut Kept) {
     for n in [0, 9, 10, 255] {
         for lent in [0, 9216, 65535] {
             let route = many(n).lent(lent).flag(ATTEMPTS);
-            list.add(route.clone());
             let fed = route.piece_lent(0, b"a").piece_lent(9215, b"b").piece_lent(9216, b"c").piece_lent(65535, b"d");
-            list.add(fed.flag(END));
+            list.all([route, fed.flag(END)]);
         }
     }
     for n in [1, 8] {
-        list.add(many(n).flag(ATTEMPTS));
-        list.add(many(n).served());
+        list.all([many(n).flag(ATTEMPTS), many(n).served()]);
     }
 }
 
@@ -279,14 +237,12 @@ fn lents(list: &mut Kept) {
         let route = chain(text);
         let (asked, replies) = (asked(&route), good(&route).concat());
         for lent in [0, asked - 1, asked, 9217, 65535] {
-            let served = route.clone().lent(lent).piece_lent(asked, &replies).piece_lent(asked - 1, b"lost");
+            let served = route.lent(lent).piece_lent(asked, &replies).piece_lent(asked - 1, b"lost");
             list.add(if lent < asked { served.flag(END) } else { served.flag(ATTEMPTS) });
         }
-        for lent in [778, asked - 1, 65535] {
-            let twice = route.clone().piece_lent(lent, &replies).piece_lent(asked, &replies);
-            list.add(twice.flag(END | ATTEMPTS));
-        }
-        list.add(route.clone().piece_lent(asked - 1, b"").piece_lent(asked, &replies[..3]).flag(END));
+        let twice = |lent| route.piece_lent(lent, &replies).piece_lent(asked, &replies).flag(END | ATTEMPTS);
+        list.all([778, asked - 1, 65535].map(twice));
+        list.add(route.piece_lent(asked - 1, b"").piece_lent(asked, &replies[..3]).flag(END));
         // not less once some of its proxies are open
         let tried = route.piece_lent(asked, &replies[..replies.len() - 1]).piece_lent(asked - 1, &replies);
         list.add(tried.piece_lent(asked, &replies[replies.len() - 1..]).flag(ATTEMPTS));
@@ -294,7 +250,7 @@ fn lents(list: &mut Kept) {
 }
 
 // A route in which the proxy of this number, from 1, is asked for what it refuses with this.
-fn refused(route: Draft<Route>, number: usize, refusal: u8) -> Draft<Route> {
+fn refused(route: &Draft<Route>, number: usize, refusal: u8) -> Draft<Route> {
     match refusal {
         2 => route.asking(number, b"[]"),
         3 => route.asking(number, b"a b"),
@@ -310,12 +266,10 @@ fn refused(route: Draft<Route>, number: usize, refusal: u8) -> Draft<Route> {
 fn each(list: &mut Kept) {
     for (version, numbers) in [("5 ", &[2, 3, 4, 5, 6][..]), ("4 ", &[2, 3, 4, 6, 7, 23])] {
         for (proxies, places) in [(1, &[1][..]), (2, &[1, 2]), (3, &[2]), (8, &[8])] {
+            let route = chain(&version.repeat(proxies));
+            let fed = route.piece_lent(route.lent, b"rest").piece_lent(route.lent - 1, b"lost").flag(END);
             for place in places {
-                for number in numbers {
-                    let route = refused(chain(&version.repeat(proxies)), *place, *number);
-                    let asked = asked(&route);
-                    list.add(route.piece_lent(asked, b"rest").piece_lent(asked - 1, b"lost").flag(END));
-                }
+                list.all(numbers.iter().map(|number| refused(&fed, *place, *number)));
             }
         }
     }
@@ -324,79 +278,61 @@ fn each(list: &mut Kept) {
 // 21 before 1, 1 before the openings, the first proxy's number before the second's, then as in one opening.
 fn order(list: &mut Kept) {
     for n in [0, 9] {
-        list.add(many(n).lent(0).host(b""));
-        list.add(many(n).host(b"").portless(n));
+        list.all([many(n).lent(0).host(b""), many(n).host(b"").portless(n)]);
     }
     for text in ["5", "4 5", "5 4 5"] {
-        for number in [2, 3, 4, 6] {
-            let route = chain(text);
-            let short = asked(&route) - 1;
-            list.add(refused(route, 1, number).lent(short).flag(END));
-        }
+        let route = chain(text).lent(chain(text).lent - 1).flag(END);
+        list.all([2, 3, 4, 6].map(|number| refused(&route, 1, number)));
     }
-    let pairs = [(23, 2), (7, 3), (6, 2), (6, 4), (4, 2), (4, 3), (3, 2), (2, 23), (2, 3)];
-    for (first, second) in pairs {
-        list.add(refused(refused(chain("4 4"), 1, first), 2, second));
-        list.add(refused(refused(chain("5c 4 5 4"), 2, first), 4, second));
+    let twice = |text: &str, [one, other]: [usize; 2], (first, second): (u8, u8)| {
+        refused(&refused(&chain(text), one, first), other, second)
+    };
+    for pair in [(23, 2), (7, 3), (6, 2), (6, 4), (4, 2), (4, 3), (3, 2), (2, 23), (2, 3)] {
+        list.all([twice("4 4", [1, 2], pair), twice("5c 4 5 4", [2, 4], pair)]);
     }
-    for (first, second) in [(5, 2), (5, 3), (6, 5), (6, 2), (4, 5), (2, 5)] {
-        list.add(refused(refused(chain("5 5"), 1, first), 2, second));
-    }
+    list.all([(5, 2), (5, 3), (6, 5), (6, 2), (4, 5), (2, 5)].map(|pair| twice("5 5", [1, 2], pair)));
     // two at the same proxy
-    for (one, other) in [(2, 4), (3, 4), (4, 5), (5, 6), (3, 5), (2, 5), (4, 6)] {
-        list.add(refused(refused(chain("4 5 5"), 2, one), 2, other));
-    }
-    for (one, other) in [(4, 7), (4, 23), (3, 4), (2, 4), (4, 6)] {
-        list.add(refused(refused(chain("5 4 5"), 2, one), 2, other));
-    }
+    list.all([(2, 4), (3, 4), (4, 5), (5, 6), (3, 5), (2, 5), (4, 6)].map(|pair| twice("4 5 5", [2, 2], pair)));
+    list.all([(4, 7), (4, 23), (3, 4), (2, 4), (4, 6)].map(|pair| twice("5 4 5", [2, 2], pair)));
 }
 
 // The first proxy's own host and port; credentials and the option at a v4 proxy; flags that are none.
 fn not_looked_at(list: &mut Kept) {
     for own in [&b""[..], b"[]", b"a b", b"\x00\xFF", b"::1", b"0.0.0.5", &[b'n'; 1015]] {
-        for text in ["5", "4 5"] {
-            list.add(chain(text).asking(0, own).portless(0).served().flag(ATTEMPTS));
-        }
+        list.all(["5", "4 5"].map(|text| chain(text).asking(0, own).portless(0).served().flag(ATTEMPTS)));
     }
     list.add(chain("5 5").portless(0).served());
     for text in ["4", "4 4", "5 4", "4 5 4"] {
         let last = text.split(' ').count();
-        list.add(chain(text).credentials(last, 256, 256).served());
-        list.add(chain(text).credentials(last, 1, 300).flag(ATTEMPTS).served());
-        list.add(chain(&text.replace('4', "4co")).served().flag(END));
+        let long = |user, password| chain(text).credentials(last, user, password).served();
+        list.all([long(256, 256), long(1, 300).flag(ATTEMPTS), chain(&text.replace('4', "4co")).served().flag(END)]);
     }
     let mut odd = chain("5 4 5").flag(!(END | ATTEMPTS));
     odd.proxies.iter_mut().for_each(|proxy| proxy.flags |= !(CREDENTIALS | OPTIMISTIC | PORT));
-    list.add(odd.clone());
-    list.add(odd.served());
+    list.all([odd.clone(), odd.served()]);
 }
 
 // Credentials, names and addresses at their limits, asked of the first proxy and of the last.
 fn limits(list: &mut Kept) {
     for (user, password) in [(0, 0), (0, 1), (1, 0), (255, 0), (0, 255), (255, 255), (256, 0), (0, 256)] {
-        for text in ["5 4", "4 5o"] {
-            let number = if text == "5 4" { 1 } else { 2 };
-            list.add(chain(text).credentials(number, user, password).served());
-        }
+        let with = |(text, number)| chain(text).credentials(number, user, password).served();
+        list.all([("5 4", 1), ("4 5o", 2)].map(with));
     }
     for n in [1, 254, 255, 256, 1014, 1015] {
         let name = vec![b'n'; n];
         for text in ["5 4", "4 5"] {
-            list.add(chain(text).asking(1, &name).served());
-            list.add(chain(text).asking(2, &name).served());
+            list.all([1, 2].map(|number| chain(text).asking(number, &name).served()));
         }
         list.add(chain("4 5").asking(1, &[b"[", &name[..], b"]"].concat()).served());
     }
     for host in ["[2001:db8::1]", "2001:db8::1", "[", "[[]]", "192.0.2.7", "[192.0.2.7]", "01.2.3.4", "0.0.0.0"] {
         for text in ["5 4", "4 5c"] {
-            list.add(chain(text).asking(1, host.as_bytes()).served());
-            list.add(chain(text).asking(2, host.as_bytes()).served());
+            list.all([1, 2].map(|number| chain(text).asking(number, host.as_bytes()).served()));
         }
     }
     for port in [0, 80, 65535] {
-        let mut route = chain("5 4 5");
-        (route.port, route.proxies[1].port, route.proxies[2].port) = (port, port, port);
-        list.add(route.served());
+        let all = |r: &mut Draft<Route>| (r.port, r.proxies[1].port, r.proxies[2].port) = (port, port, port);
+        list.add(chain("5 4 5").but(all).served());
     }
 }
 
@@ -405,14 +341,12 @@ fn longest(list: &mut Kept) {
     for word in ["5c ", "5co ", "4 "] {
         let mut route = chain(&word.repeat(8));
         for number in 1..=8 {
-            let name = vec![b'a' + number as u8; if word == "4 " { 1014 } else { 255 }];
-            route = route.asking(number, &name);
-            if word != "4 " {
-                route = route.credentials(number, 255, 255);
-            }
+            let v4 = word == "4 ";
+            route = route.asking(number, &vec![b'a' + number as u8; if v4 { 1014 } else { 255 }]);
+            route = if v4 { route } else { route.credentials(number, 255, 255) };
         }
         let (asked, replies) = (asked(&route), good(&route).concat());
-        list.add(route.clone().piece_lent(asked, &replies).flag(ATTEMPTS));
+        list.add(route.piece_lent(asked, &replies).flag(ATTEMPTS));
         list.add(replies.chunks(7).fold(route, |route, piece| route.piece_lent(asked, piece)).flag(ATTEMPTS));
     }
 }
@@ -421,22 +355,8 @@ fn longest(list: &mut Kept) {
 
 pub fn add(list: &mut Kept) {
     let first = list.cases.len();
-    let parts = [
-        whole,
-        cuts,
-        borders,
-        long_replies,
-        failures,
-        settled,
-        numbers,
-        lents,
-        each,
-        order,
-        not_looked_at,
-        limits,
-        longest,
-    ];
-    parts.iter().for_each(|part| part(list));
+    list.parts(&[whole, cuts, borders, long_replies, failures, settled, numbers, lents, each, order, not_looked_at]);
+    list.parts(&[limits, longest]);
     let fill = CASES.saturating_sub(list.cases.len() - first);
     // beside the kind and the calls' letters
     let small = |case: &Case| case.bytes().len() - 1 - case.calls.len() < SMALL;
