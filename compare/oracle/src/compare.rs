@@ -132,19 +132,16 @@ impl Figures {
     pub fn add(&mut self, case: &Case, teller: Teller) {
         self.sum("bytes in all", case.bytes().len());
         if let Kind::Text(letter, _) = &case.kind {
-            let line = model::text(case);
-            let answer = if *letter == b'H' { if line.len() == 1 { "none" } else { "bytes" } } else { &line[..1] };
+            let answer = if *letter == b'H' { "" } else { &model::text(case)[..1] };
             return self.one("texts", format!("{} {answer}", char::from(*letter)));
         }
         let line = model::line(case);
-        self.one(
-            "told by",
-            match teller {
-                Teller::Rust => "the Rust too",
-                Teller::Beyond => "the model where the Rust ends with WouldOverflow",
-                Teller::Model => "the model alone",
-            },
-        );
+        let by = match teller {
+            Teller::Rust => "the Rust too",
+            Teller::Beyond => "the model where the Rust ends with WouldOverflow",
+            Teller::Model => "the model alone",
+        };
+        self.one("told by", by);
         self.one("checks", line.check);
         let status = if line.status == 0 { String::new() } else { format!(" {}", line.status) };
         self.one("outcomes with statuses", format!("{}{status}", line.outcome.text()));
@@ -160,14 +157,13 @@ impl Figures {
         }
         match &case.kind {
             Kind::Route(route, _) => {
-                self.one("proxies", route.proxies.len());
-                if line.outcome == Outcome::Settled(0) {
-                    self.one("open, by proxies", route.proxies.len());
-                }
+                let open = if line.outcome == Outcome::Settled(0) { " open" } else { "" };
+                self.one("proxies", format!("{}{open}", route.proxies.len()));
+                self.sum("routes in which a piece goes on to the next proxy", usize::from(line.crosses));
             }
             Kind::End(_) => self.one("destinations", line.destination.as_ref().map_or('-', |d| d.kind)),
-            _ => self
-                .one("order", if matches!(case.calls.first(), Some(Call::Start(_))) { "a start first" } else { "not" }),
+            _ if matches!(case.calls.first(), Some(Call::Start(_))) => self.one("first calls", "a start"),
+            _ => self.one("first calls", "another"),
         }
         self.most("sent at most", line.sent.len());
         self.most("calls at most", case.calls.len());
@@ -278,15 +274,12 @@ fn damaged(program: &str, kind: u8, seed: u64, count: u64) -> usize {
             // near its start most of a case is decided
             let at = if r.once_in(2) { r.below(bytes.len().min(60) + 1) } else { r.below(bytes.len() + 1) };
             let (before, behind) = bytes.split_at(at);
+            let (there, behind) = behind.split_at(behind.len().min(6));
+            let other = r.damaged(there.to_vec(), b"\0\x01\x02\x04\x05\x06\x09sdebtawAHUSRP");
             let bytes = match r.below(8) {
                 0 => before.to_vec(),
                 1 => [&bytes[..], &r.some_bytes(4)].concat(),
-                _ => [
-                    before,
-                    &r.damaged(behind[..behind.len().min(6)].to_vec(), b"\0\x01\x02\x04\x05\x06\x09sdebtawAHUSRP"),
-                    &behind[behind.len().min(6)..],
-                ]
-                .concat(),
+                _ => [before, &other, behind].concat(),
             };
             frame(&bytes[..bytes.len().min(MOST_BYTES)])
         })
@@ -294,32 +287,25 @@ fn damaged(program: &str, kind: u8, seed: u64, count: u64) -> usize {
         .filter(|frame| !matches!(frame.get(2), Some(b'L' | b'C' | b'E')))
         .collect();
     let read = frames.iter().filter(|frame| Case::read(&frame[2..]).is_some()).count();
-    let lines = run(program, frames.concat());
+    let mut lines = run(program, frames.concat()).into_iter();
+    let mut differs = |frame: &&Vec<u8>| lines.next().unwrap_or_default() != model::answers(frame).trim_end();
     let wrong =
-        |(at, frame): (usize, &Vec<u8>)| lines.get(at).map(String::as_str) != Some(model::answers(frame).trim_end());
-    let wrong = frames
-        .iter()
-        .enumerate()
-        .filter(|both| wrong(*both))
-        .inspect(|(_, frame)| println!("difference: {}", hex(frame)));
-    let wrong = wrong.count();
+        frames.iter().filter(|frame| differs(frame)).inspect(|frame| println!("difference: {}", hex(frame))).count();
     println!("damaged frames: {}, {read} of them a case still, {wrong} answered wrongly", frames.len());
     wrong
 }
 
-// Every way that the input may end inside a frame, behind a good one and behind a bad one.
+// Every way that the input may end inside a frame: its first, behind a good one, and behind a bad one.
 fn endings(program: &str, kind: u8, seed: u64) -> usize {
     let small = |case: &Case| case.bytes().len() < 120 && (kind == b'T' || case.calls.len() > 1);
     let case = (0..).map(|n| generate::case(kind, seed, n)).find(small).expect("a small case");
     let (good, bad) = (case.frame(), frame(b"X"));
-    let ways: Vec<_> =
-        (0..good.len()).flat_map(|n| [[&good, &good[..n]].concat(), [&good, &bad, &good[..n]].concat()]).collect();
+    let behind =
+        |n: usize| [vec![], good.clone(), [&good[..], &bad].concat()].map(|ahead| [&ahead, &good[..n]].concat());
+    let ways: Vec<_> = (0..good.len()).flat_map(behind).collect();
     let wrong = ways.iter().filter(|input| !same(program, input.to_vec())).count();
     println!("input that ends inside a frame: {} ways, {wrong} answered wrongly", ways.len());
     wrong
-        + usize::from(!same(program, vec![]))
-        + usize::from(!same(program, vec![0]))
-        + usize::from(!same(program, vec![0, 1]))
 }
 
 // Answers whether all is the same. Without the program: the original and the model alone.

@@ -142,7 +142,9 @@ fn of_kind(kind: u8, run: &mut Run, count: u64, program: &str, mut planting: Opt
             let told = |cases: &[Case]| {
                 let cases: Vec<_> = cases.iter().map(|case| (*number, case.clone())).collect();
                 let mut all = pairs(program, seed, &cases);
-                all.iter_mut().filter(|_| planted).for_each(|pair| drop(plant(&pair.cases[1], &mut pair.lines[1])));
+                for pair in all.iter_mut().filter(|_| planted) {
+                    plant(&pair.cases[1], &mut pair.lines[1]);
+                }
                 all
             };
             run.show(*number, case, &|cases| told(cases).iter().position(|pair| !pair.held()), &|small| {

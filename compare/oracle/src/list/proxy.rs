@@ -99,8 +99,8 @@ pub fn shortest() -> [(SetUp, Vec<u8>, u8); 4] {
 
 // Whole, one byte short of whole, and byte by byte with more behind.
 fn ways(list: &mut Kept, end: &End, stream: &[u8]) {
-    list.add(end.piece(stream).piece(b"late").answer(0).answer(90));
-    list.all([end.piece(&stream[..stream.len() - 1]), end.each_byte(stream).piece(b"SDF").flag(END)]);
+    list.all([end.piece(stream).piece(b"late").answer(0).answer(90), end.piece(&stream[..stream.len() - 1])]);
+    list.add(end.each_byte(stream).piece(b"SDF").flag(END));
 }
 
 // Whole with more behind it.
@@ -114,8 +114,7 @@ fn once(list: &mut Kept, end: &End, stream: &[u8]) {
 fn whole(list: &mut Kept) {
     for session in sessions() {
         let (end, success, stream) = (session.end.clone(), session.success, session.stream());
-        list.all([end.clone(), end.flag(END), end.piece(&stream)]);
-        list.add(end.piece(&stream).answer(success).flag(END));
+        list.all([end.clone(), end.flag(END), end.piece(&stream), end.piece(&stream).answer(success).flag(END)]);
         list.add(end.piece(&[&stream, &b"SDF"[..]].concat()).answer(success).piece(b"more").flag(END));
         list.add(end.piece(&[&stream[..], &stream].concat()).answer(success).piece(&stream));
         let one_by_one = end.pieces(session.requests.iter().map(|request| &request[..]));
@@ -149,8 +148,7 @@ fn set_ups(list: &mut Kept) {
         let late = |case: End| case.piece_lent(262, &good5()).piece_lent(261, b"lost").piece(b"").answer(0);
         list.add(late(end.clone()).flag(END));
         if user + password < 1000 {
-            list.all([end.clone(), end.flag(END)]);
-            list.add(end.answer_lent(0, 90, 6, BOUND, 1).each_byte(&good4()));
+            list.all([end.clone(), end.flag(END), end.answer_lent(0, 90, 6, BOUND, 1).each_byte(&good4())]);
             let without = end.but(|end| end.flags = 0);
             list.all([without.piece(&good5()).answer(0), without.piece(&good4()).answer(90).flag(END)]);
         }
@@ -437,8 +435,8 @@ fn turns(list: &mut Kept) {
         list.all([tried.flag(END), tried.answer_lent(261, success, 4, BOUND, 1).answer(success).piece(b"cd")]);
         // any call to an end that is open or failed
         let again = |case: End| late(case).answer(success).answer_lent(0, 1, 6, BOUND, 1).flag(END);
-        list.all([again(asked.answer(success)), again(asked.answer(2))]);
-        list.all([again(end.piece(&[stream[0], 0])), again(end.piece(&[7]))]);
+        list.all([again(asked.answer(success)), again(asked.answer(2)), again(end.piece(&[stream[0], 0]))]);
+        list.add(again(end.piece(&[7])));
     }
     let wrong = set(b"u", b"pw").piece(&[greeting(&[2]), credentials(b"u", b"px")].concat());
     list.add(wrong.piece(&connect([5, 1, 0], &FOUR)).answer(0).piece_lent(0, b"lost").flag(END));
@@ -452,8 +450,7 @@ fn empties(list: &mut Kept) {
         for b in &stream {
             all = all.piece(&[*b]).piece_lent(262, b"").piece_lent(261, b"");
         }
-        list.all([all.flag(END), all.answer(session.success).piece(b"").flag(END)]);
-        list.add(session.end.piece(b"").flag(END));
+        list.all([all.flag(END), all.answer(session.success).piece(b"").flag(END), session.end.piece(b"").flag(END)]);
     }
 }
 

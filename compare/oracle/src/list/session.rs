@@ -278,8 +278,8 @@ fn method_replies(list: &mut Kept) {
     let with = base(5).credentials(1, 1);
     for b in [0, 1, 2, 3, 4, 0x7F, 0x80, 0xFE, 0xFF] {
         list.all([with.piece(&[5, b]), with.flag(OPTIMISTIC).piece(&[5, b, 1, 0])]);
-        list.all([base(5).flag(OPTIMISTIC).each_byte(&[5, b, 5]), base(5).piece(&[b, 0])]);
-        list.all([with.piece(&[5, 2, 1, b]), with.piece(&[5, 2, b, 0]), with.each_byte(&[5, 2, 1, b, 5])]);
+        list.all([base(5).flag(OPTIMISTIC).each_byte(&[5, b, 5]), base(5).piece(&[b, 0]), with.piece(&[5, 2, 1, b])]);
+        list.all([with.piece(&[5, 2, b, 0]), with.each_byte(&[5, 2, 1, b, 5])]);
     }
 }
 
@@ -599,8 +599,7 @@ fn counted_pieces(list: &mut Kept) {
         list.all([case.each_byte(&behind).flag(END), case.piece(&behind)]);
         for n in 0..=stream.len() {
             let (before, later) = behind.split_at(n);
-            list.all([case.piece(before), case.each_byte(before).flag(END)]);
-            list.add(case.piece(before).piece(later));
+            list.all([case.piece(before), case.each_byte(before).flag(END), case.piece(before).piece(later)]);
         }
     }
 }
@@ -663,8 +662,7 @@ fn counted_refusals(list: &mut Kept) {
         let (start, delivery) = asked(&case);
         for lent in [0, start - 1] {
             let case = case.lent(lent);
-            list.all([case.clone(), case.piece_lent(delivery, &stream)]);
-            list.add(case.each_byte(&stream).flag(END));
+            list.all([case.clone(), case.piece_lent(delivery, &stream), case.each_byte(&stream).flag(END)]);
             list.add(case.piece(b"").piece_lent(delivery - 1, &stream).piece_lent(delivery, &stream).flag(END));
         }
     }

@@ -43,6 +43,7 @@ pub struct Line {
     // not told: by all deliveries, and at the last
     pub used: usize,
     pub attempts: usize,
+    pub crosses: bool,
 }
 
 // A session, a route or a proxy's end, between two calls.
@@ -56,8 +57,9 @@ trait Side {
     fn outcome(&self) -> Outcome;
     fn status(&self) -> u8;
 
-    fn attempts(&self) -> usize {
-        0
+    // And whether a piece went on from one proxy to the next.
+    fn attempts(&self) -> (usize, bool) {
+        (0, false)
     }
 
     // The bound address's text, if it is open.
@@ -84,7 +86,7 @@ fn run(side: &mut dyn Side, check: u8, calls: &[Call]) -> Line {
             Call::Bound(_) => {
                 Entry { text: Some(side.text().filter(|_| number == 0).unwrap_or_default()), ..entry(&[]) }
             }
-            Call::Attempts => Entry { number: side.attempts(), ..entry(&[]) },
+            Call::Attempts => Entry { number: side.attempts().0, ..entry(&[]) },
         });
         if let Call::Piece(n, piece) = call
             && lent(*n) >= side.asks()
@@ -93,8 +95,8 @@ fn run(side: &mut dyn Side, check: u8, calls: &[Call]) -> Line {
         }
     }
     let (sent, outcome, status) = (side.sent(), side.outcome(), side.status());
-    let (used, attempts, destination) = (side.used(), side.attempts(), side.destination());
-    Line { check, calls: entries, sent, rests, outcome, status, destination, used, attempts }
+    let (used, (attempts, crosses), destination) = (side.used(), side.attempts(), side.destination());
+    Line { check, calls: entries, sent, rests, outcome, status, destination, used, attempts, crosses }
 }
 
 // Of a case that has calls.

@@ -16,6 +16,7 @@ pub struct Tunnel {
     joined: Vec<u8>,
     ended: bool,
     attempts: usize,
+    crosses: bool,
 }
 
 // Prepared, or refused.
@@ -23,7 +24,17 @@ pub fn session(opening: &Opening) -> Tunnel {
     let refused = Some(prepare(opening)).filter(|number| *number != 0);
     let plans = if refused.is_some() { vec![] } else { vec![plan(opening)] };
     let (start_asks, asks) = (start_asks(opening), delivery_asks(opening));
-    Tunnel { refused, plans, start_asks, asks, begun: vec![], joined: vec![], ended: false, attempts: 0 }
+    Tunnel {
+        refused,
+        plans,
+        start_asks,
+        asks,
+        begun: vec![],
+        joined: vec![],
+        ended: false,
+        attempts: 0,
+        crosses: false,
+    }
 }
 
 // ---- routes
@@ -61,7 +72,7 @@ pub fn route(route: &Route, n: u16) -> Tunnel {
     let refused = Some(route_check(route, n)).filter(|number| *number != 0);
     let plans: Vec<_> = if refused.is_some() { vec![] } else { openings(route).iter().map(plan).collect() };
     let (begun, asks) = (in_turn(&plans, &[]), route_asks(route));
-    Tunnel { refused, plans, start_asks: asks, asks, begun, joined: vec![], ended: false, attempts: 0 }
+    Tunnel { refused, plans, start_asks: asks, asks, begun, joined: vec![], ended: false, attempts: 0, crosses: false }
 }
 
 // ---- the machines in turn
@@ -83,18 +94,18 @@ fn in_turn(plans: &[Vec<Step>], joined: &[u8]) -> Vec<State> {
 
 // Of an accepted delivery: for each session that is handed some of the piece, the replies decided in it, and one more
 // if the session then waits.
-fn attempts(before: &[State], after: &[State], piece: &[u8]) -> usize {
-    let (mut left, mut count) = (piece, 0);
+fn attempts(before: &[State], after: &[State], piece: &[u8]) -> Vec<usize> {
+    let (mut left, mut counts) = (piece, vec![]);
     // those ahead of the last one were open before
     for (i, now) in after.iter().enumerate().skip(before.len() - 1) {
         if left.is_empty() {
             break;
         }
         let (used, decided) = before.get(i).map_or((0, 0), |then| (then.used, then.decided));
-        count += now.decided - decided + usize::from(now.outcome.is_none());
+        counts.push(now.decided - decided + usize::from(now.outcome.is_none()));
         left = &left[now.used - used..];
     }
-    count
+    counts
 }
 
 // ---- calls
@@ -137,7 +148,9 @@ impl Tunnel {
         }
         self.joined.extend(piece);
         let after = in_turn(&self.plans, &self.joined);
-        self.attempts += attempts(&self.begun, &after, piece);
+        let counts = attempts(&self.begun, &after, piece);
+        self.attempts += counts.iter().sum::<usize>();
+        self.crosses |= counts.len() > 1;
         self.begun = after;
         0
     }
@@ -185,8 +198,8 @@ impl Side for Tunnel {
         self.begun.last().map_or(0, |now| now.status)
     }
 
-    fn attempts(&self) -> usize {
-        self.attempts
+    fn attempts(&self) -> (usize, bool) {
+        (self.attempts, self.crosses)
     }
 
     fn text(&self) -> Option<Vec<u8>> {
