@@ -8,8 +8,9 @@ mod tunnel;
 pub use session::*;
 pub use tunnel::{openings, route_asks, route_check};
 
-#[derive(Clone, Copy, PartialEq)]
+#[derive(Clone, Copy, PartialEq, Default)]
 pub enum Outcome {
+    #[default]
     Waiting,
     // a proxy's end that awaits the caller's answer
     Asked,
@@ -17,12 +18,27 @@ pub enum Outcome {
     Settled(u8),
 }
 
-#[derive(Clone, PartialEq)]
+#[derive(Clone)]
 pub struct Destination {
     // 4, 6 or n
     pub kind: char,
     pub address: Vec<u8>,
     pub port: u16,
+}
+
+// What all calls so far have come to.
+#[derive(Clone, Default)]
+pub struct Now {
+    pub sent: Vec<u8>,
+    pub used: usize,
+    pub outcome: Outcome,
+    pub status: u8,
+    pub attempts: usize,
+    // a piece went on from one proxy to the next
+    pub crosses: bool,
+    // of the bound address, once open
+    pub text: Option<Vec<u8>>,
+    pub destination: Option<Destination>,
 }
 
 // Of one call: the answer, or the attempts; then its counts, or its text.
@@ -35,15 +51,16 @@ pub struct Entry {
 pub struct Line {
     pub check: u8,
     pub calls: Vec<Entry>,
-    pub sent: Vec<u8>,
     pub rests: Vec<u8>,
-    pub outcome: Outcome,
-    pub status: u8,
-    pub destination: Option<Destination>,
-    // not told: by all deliveries, and at the last
-    pub used: usize,
-    pub attempts: usize,
-    pub crosses: bool,
+    now: Now,
+}
+
+impl std::ops::Deref for Line {
+    type Target = Now;
+
+    fn deref(&self) -> &Now {
+        &self.now
+    }
 }
 
 // A session, a route or a proxy's end, between two calls.
@@ -52,41 +69,25 @@ trait Side {
     fn asks(&self) -> usize;
     // What the call answers. Unless that is a refusal, it is done.
     fn call(&mut self, call: &Call) -> u8;
-    fn sent(&self) -> Vec<u8>;
-    fn used(&self) -> usize;
-    fn outcome(&self) -> Outcome;
-    fn status(&self) -> u8;
-
-    // And whether a piece went on from one proxy to the next.
-    fn attempts(&self) -> (usize, bool) {
-        (0, false)
-    }
-
-    // The bound address's text, if it is open.
-    fn text(&self) -> Option<Vec<u8>> {
-        None
-    }
-
-    fn destination(&self) -> Option<Destination> {
-        None
-    }
+    fn now(&self) -> Now;
 }
 
 fn run(side: &mut dyn Side, check: u8, calls: &[Call]) -> Line {
-    let (mut entries, mut rests) = (vec![], vec![]);
+    let (mut entries, mut rests, mut now) = (vec![], vec![], side.now());
     for call in calls {
-        let (sent, used) = (side.sent().len(), side.used());
+        let (sent, used) = (now.sent.len(), now.used);
         let number = usize::from(side.call(call));
-        let (sent, used) = (side.sent().len() - sent, side.used() - used);
+        now = side.now();
+        let (sent, used) = (now.sent.len() - sent, now.used - used);
         let entry = |counts: &[usize]| Entry { number, counts: counts.to_vec(), text: None };
         entries.push(match call {
             Call::Start(_) | Call::Answer(..) => entry(&[sent]),
             Call::Piece(..) => entry(&[used, sent]),
             Call::End => entry(&[]),
             Call::Bound(_) => {
-                Entry { text: Some(side.text().filter(|_| number == 0).unwrap_or_default()), ..entry(&[]) }
+                Entry { text: Some(now.text.clone().filter(|_| number == 0).unwrap_or_default()), ..entry(&[]) }
             }
-            Call::Attempts => Entry { number: side.attempts().0, ..entry(&[]) },
+            Call::Attempts => Entry { number: now.attempts, ..entry(&[]) },
         });
         if let Call::Piece(n, piece) = call
             && lent(*n) >= side.asks()
@@ -94,9 +95,7 @@ fn run(side: &mut dyn Side, check: u8, calls: &[Call]) -> Line {
             rests.extend(&piece[used..]);
         }
     }
-    let (sent, outcome, status) = (side.sent(), side.outcome(), side.status());
-    let (used, (attempts, crosses), destination) = (side.used(), side.attempts(), side.destination());
-    Line { check, calls: entries, sent, rests, outcome, status, destination, used, attempts, crosses }
+    Line { check, calls: entries, rests, now }
 }
 
 // Of a case that has calls.

@@ -1,5 +1,5 @@
 //! The proxy's end, request F-3, over all bytes that were taken. Written from the words of document 02.
-use super::{Destination, Outcome, Side};
+use super::{Destination, Now, Outcome, Side};
 use crate::case::*;
 
 const OUTPUT: usize = 262;
@@ -188,16 +188,8 @@ fn answered(version: u8, Answer { status, bound, port }: &Answer) -> (Vec<u8>, O
 // ---- the end
 
 // What all bytes taken, and the caller's answer if it was taken, have come to.
-struct State {
-    sent: Vec<u8>,
-    used: usize,
-    outcome: Outcome,
-    status: u8,
-    destination: Option<Destination>,
-}
-
-fn state(of: &SetUp, taken: &[u8], answer: Option<&Answer>) -> State {
-    let mut now = State { sent: vec![], used: 0, outcome: Outcome::Waiting, status: 0, destination: None };
+fn state(of: &SetUp, taken: &[u8], answer: Option<&Answer>) -> Now {
+    let mut now = Now::default();
     if check(of) != 0 {
         now.outcome = Outcome::Settled(check(of));
         return now;
@@ -223,7 +215,7 @@ pub struct End<'a> {
     of: &'a SetUp,
     taken: Vec<u8>,
     answer: Option<Answer>,
-    now: State,
+    now: Now,
 }
 
 pub fn end(of: &SetUp) -> End<'_> {
@@ -263,23 +255,7 @@ impl Side for End<'_> {
         0
     }
 
-    fn sent(&self) -> Vec<u8> {
-        self.now.sent.clone()
-    }
-
-    fn used(&self) -> usize {
-        self.now.used
-    }
-
-    fn outcome(&self) -> Outcome {
-        self.now.outcome
-    }
-
-    fn status(&self) -> u8 {
-        self.now.status
-    }
-
-    fn destination(&self) -> Option<Destination> {
-        self.now.destination.clone()
+    fn now(&self) -> Now {
+        self.now.clone()
     }
 }

@@ -1,7 +1,7 @@
 //! What calls to a session come to, or to a route, request F-5's: the plain machines of its openings in turn, over all
 //! bytes that were taken. With requests F-1, F-7 and F-11.
 use super::session::*;
-use super::{Outcome, Side};
+use super::{Now, Outcome, Side};
 use crate::case::*;
 
 pub struct Tunnel {
@@ -111,6 +111,17 @@ fn attempts(before: &[State], after: &[State], piece: &[u8]) -> Vec<usize> {
 // ---- calls
 
 impl Tunnel {
+    fn outcome(&self) -> Outcome {
+        let number = self.begun.last().map_or(self.refused, |now| now.outcome).or(self.ended.then_some(9));
+        number.map_or(Outcome::Waiting, Outcome::Settled)
+    }
+
+    // Of the bound address, if it is open.
+    fn text(&self) -> Option<Vec<u8>> {
+        let open = self.begun.last().filter(|_| self.outcome() == Outcome::Settled(0));
+        open.and_then(|now| now.bound.as_ref()).map(bound_text)
+    }
+
     fn settled(&self) -> bool {
         self.outcome() != Outcome::Waiting
     }
@@ -181,29 +192,16 @@ impl Side for Tunnel {
         }
     }
 
-    fn sent(&self) -> Vec<u8> {
-        self.begun.iter().flat_map(|now| now.sent.clone()).collect()
-    }
-
-    fn used(&self) -> usize {
-        self.begun.iter().map(|now| now.used).sum()
-    }
-
-    fn outcome(&self) -> Outcome {
-        let number = self.begun.last().map_or(self.refused, |now| now.outcome).or(self.ended.then_some(9));
-        number.map_or(Outcome::Waiting, Outcome::Settled)
-    }
-
-    fn status(&self) -> u8 {
-        self.begun.last().map_or(0, |now| now.status)
-    }
-
-    fn attempts(&self) -> (usize, bool) {
-        (self.attempts, self.crosses)
-    }
-
-    fn text(&self) -> Option<Vec<u8>> {
-        let open = self.begun.last().filter(|_| self.outcome() == Outcome::Settled(0));
-        open.and_then(|now| now.bound.as_ref()).map(bound_text)
+    fn now(&self) -> Now {
+        Now {
+            sent: self.begun.iter().flat_map(|now| now.sent.clone()).collect(),
+            used: self.begun.iter().map(|now| now.used).sum(),
+            outcome: self.outcome(),
+            status: self.begun.last().map_or(0, |now| now.status),
+            attempts: self.attempts,
+            crosses: self.crosses,
+            text: self.text(),
+            destination: None,
+        }
     }
 }
