@@ -1,147 +1,328 @@
-//! Random cases: the original and the model against each other, and `replay` against both.
-use crate::case::{ATTEMPTS, Case, Fed, TEXT, lent};
-use crate::expect::expect;
-use crate::hold::{Held, Run, endings, run};
-use crate::tunnel::Line;
-use crate::{generate, model, rust};
+//! Cases of all kinds: the original and the model against each other, and `replay` against both.
+use crate::case::*;
+use crate::draw::Random;
+use crate::expect::{Teller, expect};
+use crate::generate;
+use crate::model::{self, Line, Outcome};
+use crate::shrink::{Differs, shrink};
 use std::collections::BTreeMap;
+use std::io::Write;
+use std::process::{Command, Stdio};
+use std::thread;
+use std::time::Instant;
+
+// Small enough for flat memory, large enough that starting the program costs nothing.
+const BATCH: u64 = 4000;
+// Differences that are cut down; the others are counted.
+const SHOWN: usize = 10;
+// One damaged frame to so many cases.
+const DAMAGED: u64 = 20;
+
+// ---- the program
+
+pub fn run(program: &str, input: Vec<u8>) -> Vec<String> {
+    let mut child = Command::new(program)
+        .stdin(Stdio::piped())
+        .stdout(Stdio::piped())
+        .spawn()
+        .unwrap_or_else(|e| panic!("{program}: {e}"));
+    let mut stdin = child.stdin.take().unwrap();
+    // it may stop before its input ends
+    let writer = thread::spawn(move || stdin.write_all(&input).is_ok());
+    let output = child.wait_with_output().unwrap();
+    writer.join().unwrap();
+    let mut lines: Vec<String> = String::from_utf8_lossy(&output.stdout).lines().map(String::from).collect();
+    if !output.status.success() {
+        lines.push(format!("({})", output.status));
+    }
+    lines
+}
+
+// A line for each case; where it stops too soon, it begins anew behind the case that stopped it.
+pub fn ask(program: &str, cases: &[Case]) -> Vec<String> {
+    let mut lines: Vec<String> = vec![];
+    while lines.len() < cases.len() {
+        let left = &cases[lines.len()..];
+        let more = run(program, left.iter().flat_map(Case::frame).collect());
+        let stopped = more.is_empty();
+        lines.extend(more);
+        if stopped {
+            lines.push("(no line)".into());
+        }
+    }
+    lines.truncate(cases.len());
+    lines
+}
+
+// ---- the expected side
+
+// The line with one byte changed, if it has such: the last that was sent, or a text's answer.
+fn plant(case: &Case, line: &str) -> Option<String> {
+    let mut fields: Vec<String> = line.split(' ').map(String::from).collect();
+    let field = if let Kind::Text(..) = case.kind { fields.last_mut() } else { fields.get_mut(2) }?;
+    let last = field.pop().filter(|c| *c != '-')?;
+    field.push(if last == '0' { '1' } else { '0' });
+    Some(fields.join(" "))
+}
+
+fn expected(case: &Case, planted: bool) -> Option<String> {
+    let (line, _) = expect(case).ok()?;
+    if planted { plant(case, &line) } else { Some(line) }
+}
+
+// Where the program and the expected side first differ; a line that is not there differs too.
+fn first_difference(program: &str, cases: &[Case], planted: bool) -> Option<usize> {
+    let lines = ask(program, cases);
+    (0..cases.len()).find(|at| expected(&cases[*at], planted).is_some_and(|text| lines[*at] != text))
+}
 
 // ---- the attempts
 
-// The line with the attempts, asked for or not.
-fn counted(case: &Case) -> Line {
-    model::answer(&Case { flags: case.flags | ATTEMPTS, ..case.clone() })
-}
-
-// How many more attempts than accepted deliveries of nonempty pieces, by that line.
+// How many more attempts than accepted deliveries of nonempty pieces.
 fn excess(case: &Case, line: &Line) -> isize {
-    let brought = case.deliveries.iter().zip(&line.answers).filter(|(d, answer)| **answer == 0 && !d.piece.is_empty());
-    line.attempts.unwrap_or(0) as isize - brought.count() as isize
+    let brought = case.calls.iter().zip(&line.calls).filter(|(call, entry)| match call {
+        Call::Piece(_, piece) => entry.number == 0 && !piece.is_empty(),
+        _ => false,
+    });
+    line.attempts as isize - brought.count() as isize
 }
 
-impl Held for Case {
-    type Line = Line;
-
-    fn model(&self) -> Line {
-        model::answer(self)
-    }
-
-    fn expect(&self) -> Result<Line, String> {
-        expect(self)
-    }
-
-    // At most three more by request F-11; and each of these deliveries is an attempt.
-    fn miscounted(&self) -> Option<String> {
-        let excess = excess(self, &counted(self));
-        (!(0..=3).contains(&excess)).then(|| format!("above the deliveries by {excess}"))
-    }
+// At most three more for a session by request F-11, and each of these deliveries is an attempt; for a route three more
+// for each proxy, and one more where a piece goes on to the next.
+fn miscounted(case: &Case) -> Option<String> {
+    let most = match &case.kind {
+        Kind::Session(_) => 3,
+        Kind::Route(route, _) => (4 * route.proxies.len() as isize - 1).max(0),
+        _ => return None,
+    };
+    let excess = excess(case, &model::line(case));
+    (!(0..=most).contains(&excess)).then(|| format!("attempts: above the deliveries by {excess}"))
 }
 
 // ---- figures
 
+// What a row of cases came to.
 #[derive(Default)]
-struct Figures {
-    told: usize,
-    overflows: usize,
-    refused: usize,
-    ahead: usize,
-    single: usize,
-    bytes: usize,
-    most_sent: usize,
-    outcomes: BTreeMap<Option<u8>, usize>,
-    statuses: BTreeMap<u8, usize>,
-    texts: BTreeMap<u8, usize>,
-    counted: usize,
-    most_attempts: usize,
-    excesses: BTreeMap<isize, usize>,
+pub struct Figures {
+    rows: BTreeMap<&'static str, BTreeMap<String, usize>>,
+    most: BTreeMap<&'static str, usize>,
+}
+
+// Numbers before words, and by their size.
+fn sorted(row: &BTreeMap<String, usize>) -> String {
+    let mut all: Vec<_> = row.iter().collect();
+    all.sort_by_key(|(name, _)| (name.split(' ').next().and_then(|n| n.parse().ok()).unwrap_or(i32::MAX), *name));
+    all.iter().map(|(name, n)| format!("{name}: {n}")).collect::<Vec<_>>().join(", ")
 }
 
 impl Figures {
-    // The line has the attempts, asked for or not.
-    fn add(&mut self, case: &Case, line: &Line) {
-        let asked = model::delivery_asks(case);
-        let single = case.deliveries.iter().all(|d| lent(d.lent) < asked || d.piece.len() <= 1);
-        let overflows = rust::overflows(case);
-        let short = lent(case.lent) < model::start_asks(case);
-        self.told += usize::from(rust::tells(case));
-        self.overflows += usize::from(overflows);
-        self.refused += usize::from(line.open == 1);
-        self.ahead += usize::from(short && line.open != 1);
-        self.single += usize::from(single);
-        self.bytes += case.bytes().len();
-        self.most_sent = self.most_sent.max(if case.version == 5 { line.sent.len() } else { 0 });
-        *self.outcomes.entry(line.outcome).or_default() += 1;
-        if line.status != 0 {
-            *self.statuses.entry(line.status).or_default() += 1;
-        }
-        if let Some((answer, _)) = line.bound {
-            *self.texts.entry(answer).or_default() += 1;
-        }
-        self.counted += usize::from(case.has(ATTEMPTS));
-        self.most_attempts = self.most_attempts.max(line.attempts.unwrap_or(0));
-        *self.excesses.entry(excess(case, line)).or_default() += 1;
+    pub fn one(&mut self, row: &'static str, name: impl ToString) {
+        *self.rows.entry(row).or_default().entry(name.to_string()).or_default() += 1;
     }
 
-    fn text(&self) -> String {
-        let outcomes = self.outcomes.iter().map(|(n, count)| match n {
-            None => format!("waiting {count}"),
-            Some(n) => format!("{n}: {count}"),
-        });
-        format!(
-            "{} told by the Rust too, {} by the model alone where the Rust ends with WouldOverflow\n\
-            {} whose start is refused with 1, {} that lend it as little and that preparing refuses\n\
-            {} in pieces of one byte, {} bytes in all, at most {} sent over v5\noutcomes: {}\nstatuses: {}\n\
-            answers of the text: {}\n{} ask for the attempts\n\
-            attempts of all: at most {}, above the accepted deliveries of nonempty pieces by {}",
-            self.told,
-            self.overflows,
-            self.refused,
-            self.ahead,
-            self.single,
-            self.bytes,
-            self.most_sent,
-            outcomes.collect::<Vec<_>>().join(", "),
-            counts(&self.statuses),
-            counts(&self.texts),
-            self.counted,
-            self.most_attempts,
-            counts(&self.excesses)
-        )
+    pub fn sum(&mut self, row: &'static str, n: usize) {
+        *self.most.entry(row).or_default() += n;
     }
-}
 
-pub fn counts<T: std::fmt::Display>(of: &BTreeMap<T, usize>) -> String {
-    of.iter().map(|(n, count)| format!("{n}: {count}")).collect::<Vec<_>>().join(", ")
-}
+    fn most(&mut self, row: &'static str, n: usize) {
+        let most = self.most.entry(row).or_default();
+        *most = n.max(*most);
+    }
 
-// A case with more records than eight is passed over, the length of its text buffer too; answers as above.
-fn many_records(replay: &str, case: &Case) -> (usize, usize) {
-    let (bytes, good) = (case.bytes(), model::answer(case).text());
-    let wanted = [good.clone(), format!("too many records at {}", bytes.len()), good];
-    let ways = [9, 10, 255].map(|n| [0, TEXT, ATTEMPTS, TEXT | ATTEMPTS].map(|off| (n, case.flags & !off))).concat();
-    let bad = ways.iter().filter(|(n, flags)| {
-        let many = Case { flags: *flags, records: vec![(6, [1; 16]); *n], ..case.clone() };
-        run(replay, [&bytes[..], &many.bytes(), &bytes].concat()) != wanted
-    });
-    (ways.len(), bad.count())
-}
-
-// Answers whether all is the same. Without `replay`: the original and the model alone.
-pub fn random(seed: u64, count: u64, replay: Option<&str>, plant: Option<u64>) -> bool {
-    let (mut run, mut figures) = (Run::new(seed, replay, plant), Figures::default());
-    run.all(count, generate::case, |case| figures.add(case, &counted(case)));
-    println!("{}", figures.text());
-    if let Some(replay) = replay {
-        let small = |case: &Case| {
-            let asks = case.has(TEXT) && case.has(ATTEMPTS);
-            case.bytes().len() < 200 && asks && !case.records.is_empty() && case.deliveries.len() > 1
+    pub fn add(&mut self, case: &Case, teller: Teller) {
+        self.sum("bytes in all", case.bytes().len());
+        if let Kind::Text(letter, _) = &case.kind {
+            let answer = if *letter == b'H' { "" } else { &model::text(case)[..1] };
+            return self.one("texts", format!("{} {answer}", char::from(*letter)));
+        }
+        let line = model::line(case);
+        let by = match teller {
+            Teller::Rust => "the Rust too",
+            Teller::Beyond => "the model where the Rust ends with WouldOverflow",
+            Teller::Model => "the model alone",
         };
-        let case = (0..).map(|n| generate::case(seed, n)).find(small).unwrap();
-        let (tried, bad) = endings(replay, &case);
-        println!("input that ends inside a case: {tried} ways, {bad} answered wrongly");
-        let (tried, worse) = many_records(replay, &case);
-        println!("more than eight records: {tried} ways, {worse} answered wrongly");
-        run.differences += bad + worse;
+        self.one("told by", by);
+        self.one("checks", line.check);
+        let status = if line.status == 0 { String::new() } else { format!(" {}", line.status) };
+        self.one("outcomes with statuses", format!("{}{status}", line.outcome.text()));
+        for (call, entry) in case.calls.iter().zip(&line.calls) {
+            match call {
+                Call::Start(_) => self.one("answers of starts", entry.number),
+                Call::Piece(..) => self.one("answers of deliveries", entry.number),
+                Call::End => self.one("answers of ends", entry.number),
+                Call::Bound(_) => self.one("answers of the text", entry.number),
+                Call::Attempts => self.one("attempts told", if entry.number == 0 { "none" } else { "some" }),
+                Call::Answer(..) => self.one("answers of the caller's answer", entry.number),
+            }
+        }
+        match &case.kind {
+            Kind::Route(route, _) => {
+                let open = if line.outcome == Outcome::Settled(0) { " open" } else { "" };
+                self.one("proxies", format!("{}{open}", route.proxies.len()));
+                self.sum("routes in which a piece goes on to the next proxy", usize::from(line.crosses));
+            }
+            Kind::End(_) => self.one("destinations", line.destination.as_ref().map_or('-', |d| d.kind)),
+            _ if matches!(case.calls.first(), Some(Call::Start(_))) => self.one("first calls", "a start"),
+            _ => self.one("first calls", "another"),
+        }
+        self.most("sent at most", line.sent.len());
+        self.most("calls at most", case.calls.len());
+        self.most("attempts at most", line.attempts);
+        if !matches!(case.kind, Kind::End(_)) {
+            self.one("attempts above the accepted deliveries of nonempty pieces", excess(case, &line));
+        }
+    }
+
+    pub fn text(&self) -> String {
+        let rows = self.rows.iter().map(|(name, row)| format!("{name}: {}", sorted(row)));
+        rows.chain(self.most.iter().map(|(name, n)| format!("{name}: {n}"))).collect::<Vec<_>>().join("\n")
+    }
+}
+
+// ---- a run
+
+pub struct Run {
+    pub seed: u64,
+    // none: the original and the model alone
+    program: Option<String>,
+    plant: Option<u64>,
+    pub differences: usize,
+    shown: Vec<Case>,
+}
+
+impl Run {
+    pub fn new(seed: u64, program: Option<&str>, plant: Option<u64>) -> Run {
+        Run { seed, program: program.map(String::from), plant, differences: 0, shown: vec![] }
+    }
+
+    // A difference, cut to its smallest input; told once if several come to the same.
+    pub fn show(&mut self, number: u64, case: &Case, differs: Differs, rows: &dyn Fn(&Case) -> [String; 2]) {
+        self.differences += 1;
+        if self.differences > SHOWN {
+            return;
+        }
+        let small = shrink(case, differs);
+        if self.shown.contains(&small) {
+            return;
+        }
+        let [one, other] = rows(&small);
+        println!("difference: case {number} of seed {}, cut to the smallest input", self.seed);
+        println!("  case     {}\n  {one}\n  {other}", hex(&small.bytes()));
+        self.shown.push(small);
+    }
+
+    // The original against the model, and the model's attempts against their bound; answers the line if they agree.
+    fn check(&mut self, number: u64, case: &Case) -> Option<(String, Teller)> {
+        let against = |case: &Case| miscounted(case).or(expect(case).err());
+        let wanted = expect(case).ok().filter(|_| miscounted(case).is_none());
+        if wanted.is_none() {
+            self.show(number, case, &|cases| cases.iter().position(|c| against(c).is_some()), &|small| {
+                [format!("model    {}", model::text(small)), format!("rust     {}", against(small).unwrap_or_default())]
+            });
+        }
+        wanted
+    }
+
+    // The program against both.
+    fn hold(&mut self, number: u64, case: &Case, mut wanted: String, line: &str) {
+        let Some(program) = self.program.clone() else {
+            return;
+        };
+        let planted = self.plant.filter(|n| *n <= number).and_then(|_| plant(case, &wanted));
+        if let Some(line) = &planted {
+            (self.plant, wanted) = (None, line.clone());
+        }
+        if wanted == line {
+            return;
+        }
+        let planted = planted.is_some();
+        self.show(number, case, &|cases| first_difference(&program, cases, planted), &|small| {
+            let answer = ask(&program, std::slice::from_ref(small)).remove(0);
+            let wanted = expected(small, planted).unwrap_or_default();
+            [format!("expected {wanted}"), format!("program  {answer}")]
+        });
+    }
+
+    fn batch(&mut self, first: u64, cases: &[Case], figures: &mut Figures) {
+        let lines = match &self.program {
+            Some(program) => ask(program, cases),
+            None => vec![String::new(); cases.len()],
+        };
+        for ((number, case), line) in (first..).zip(cases).zip(&lines) {
+            if let Some((wanted, teller)) = self.check(number, case) {
+                figures.add(case, teller);
+                self.hold(number, case, wanted, line);
+            }
+        }
+    }
+}
+
+// ---- frames that are not what the encoder makes
+
+// The input's lines are the model's.
+fn same(program: &str, input: Vec<u8>) -> bool {
+    let wanted: Vec<String> = model::answers(&input).lines().map(String::from).collect();
+    run(program, input) == wanted
+}
+
+// Frames changed, cut and lengthened in a few bytes; answers how many came out wrong.
+fn damaged(program: &str, kind: u8, seed: u64, count: u64) -> usize {
+    let frames: Vec<Vec<u8>> = (0..count)
+        .map(|n| {
+            let mut r = Random::new(!seed, n);
+            let bytes = generate::case(kind, seed, n).bytes();
+            // near its start most of a case is decided
+            let at = if r.once_in(2) { r.below(bytes.len().min(60) + 1) } else { r.below(bytes.len() + 1) };
+            let (before, behind) = bytes.split_at(at);
+            let (there, behind) = behind.split_at(behind.len().min(6));
+            let other = r.damaged(there.to_vec(), b"\0\x01\x02\x04\x05\x06\x09sdebtawAHUSRP");
+            let bytes = match r.below(8) {
+                0 => before.to_vec(),
+                1 => [&bytes[..], &r.some_bytes(4)].concat(),
+                _ => [before, &other, behind].concat(),
+            };
+            frame(&bytes[..bytes.len().min(MOST_BYTES)])
+        })
+        // kinds that later requests bring
+        .filter(|frame| !matches!(frame.get(2), Some(b'L' | b'C' | b'E')))
+        .collect();
+    let read = frames.iter().filter(|frame| Case::read(&frame[2..]).is_some()).count();
+    let mut lines = run(program, frames.concat()).into_iter();
+    let mut differs = |frame: &&Vec<u8>| lines.next().unwrap_or_default() != model::answers(frame).trim_end();
+    let wrong =
+        frames.iter().filter(|frame| differs(frame)).inspect(|frame| println!("difference: {}", hex(frame))).count();
+    println!("damaged frames: {}, {read} of them a case still, {wrong} answered wrongly", frames.len());
+    wrong
+}
+
+// Every way that the input may end inside a frame: its first, behind a good one, and behind a bad one.
+fn endings(program: &str, kind: u8, seed: u64) -> usize {
+    let small = |case: &Case| case.bytes().len() < 120 && (kind == b'T' || case.calls.len() > 1);
+    let case = (0..).map(|n| generate::case(kind, seed, n)).find(small).expect("a small case");
+    let (good, bad) = (case.frame(), frame(b"X"));
+    let behind =
+        |n: usize| [vec![], good.clone(), [&good[..], &bad].concat()].map(|ahead| [&ahead, &good[..n]].concat());
+    let ways: Vec<_> = (0..good.len()).flat_map(behind).collect();
+    let wrong = ways.iter().filter(|input| !same(program, input.to_vec())).count();
+    println!("input that ends inside a frame: {} ways, {wrong} answered wrongly", ways.len());
+    wrong
+}
+
+// Answers whether all is the same. Without the program: the original and the model alone.
+pub fn random(kind: u8, seed: u64, count: u64, program: Option<&str>, plant: Option<u64>) -> bool {
+    let mut run = Run::new(seed, program, plant);
+    let (mut figures, mut told) = (Figures::default(), Instant::now());
+    for start in (0..count).step_by(BATCH as usize) {
+        let end = (start + BATCH).min(count);
+        run.batch(start, &(start..end).map(|n| generate::case(kind, seed, n)).collect::<Vec<_>>(), &mut figures);
+        if told.elapsed().as_secs() >= 5 {
+            told = Instant::now();
+            eprintln!("compare: {end} of {count} cases, {} differences", run.differences);
+        }
+    }
+    println!("{}", figures.text());
+    if let Some(program) = program {
+        run.differences += damaged(program, kind, seed, count / DAMAGED) + endings(program, kind, seed);
     }
     println!("seed {seed}: {count} cases, {} differences", run.differences);
     run.differences == 0

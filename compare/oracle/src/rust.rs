@@ -39,7 +39,7 @@ impl Write for Connection<'_> {
     }
 }
 
-// What the original tells: an outcome as in the model's line, and the bytes that it took from the connection.
+// What the original tells: an outcome (none is waiting), and the bytes that it took from the connection.
 pub struct Told {
     pub sent: Vec<u8>,
     pub outcome: Option<u8>,
@@ -81,61 +81,44 @@ fn poll<T>(handshake: impl Future<Output = std::result::Result<T, socks::SocksEr
     }
 }
 
-fn run(case: &Case, pieces: &[&[u8]]) -> Option<Told> {
+fn run(of: &Opening, pieces: &[&[u8]], end: bool) -> Option<Told> {
     let string = |bytes: &[u8]| String::from_utf8(bytes.to_vec()).ok();
-    let host = socks::strip(std::str::from_utf8(&case.host).ok()?).to_string();
-    let auth = match case.version == 5 && case.has(CREDENTIALS) {
-        true => Some((string(&case.user)?, string(&case.password)?)),
+    let host = socks::strip(std::str::from_utf8(&of.host).ok()?).to_string();
+    let auth = match of.version == 5 && of.has(CREDENTIALS) {
+        true => Some((string(&of.user)?, string(&of.password)?)),
         false => None,
     };
-    set_records(case.records.iter().map(model::address).collect());
-    let mut conn = Connection { pieces, at: 0, end: case.has(END), taken: 0, sent: vec![] };
-    let lookup = case.has(LOCAL_LOOKUP);
-    let (outcome, status) = match case.version {
-        4 => poll(socks::start4(&mut conn, host, case.port, lookup)),
-        _ => poll(socks::start5(&mut conn, host, case.port, auth, lookup, case.has(OPTIMISTIC))),
+    set_records(of.records.iter().map(model::address).collect());
+    let mut conn = Connection { pieces, at: 0, end, taken: 0, sent: vec![] };
+    let lookup = of.has(LOCAL_LOOKUP);
+    let (outcome, status) = match of.version {
+        4 => poll(socks::start4(&mut conn, host, of.port, lookup)),
+        _ => poll(socks::start5(&mut conn, host, of.port, auth, lookup, of.has(OPTIMISTIC))),
     };
     Some(Told { sent: conn.sent, outcome, status, taken: conn.taken })
 }
 
-// The pieces that reach the original: a read of no bytes would be the end of stream, and a delivery that lends
-// too little brings nothing.
-fn script(case: &Case) -> Vec<&[u8]> {
-    let asked = model::delivery_asks(case);
-    let brought = case.deliveries.iter().filter(|d| lent(d.lent) >= asked && !d.piece.is_empty());
-    brought.map(|d| &d.piece[..]).collect()
-}
-
-// The pieces as they are; none if a text of the case is no Rust string.
-pub fn in_pieces(case: &Case) -> Option<Told> {
-    run(case, &script(case))
+// The pieces as they are, then the end of stream or nothing; none if a text of the opening is no Rust string.
+pub fn in_pieces(of: &Opening, pieces: &[&[u8]], end: bool) -> Option<Told> {
+    // a read of no bytes would be the end of stream
+    let pieces: Vec<&[u8]> = pieces.iter().copied().filter(|piece| !piece.is_empty()).collect();
+    run(of, &pieces, end)
 }
 
 // The same bytes one by one, so that what it took is what it used. No session waits for as many as 1,024.
-pub fn in_bytes(case: &Case) -> Option<Told> {
-    let script = script(case);
-    let bytes: Vec<&[u8]> = script.iter().flat_map(|piece| piece.chunks(1)).take(1024).collect();
-    run(case, &bytes)
+pub fn in_bytes(of: &Opening, pieces: &[&[u8]], end: bool) -> Option<Told> {
+    let bytes: Vec<&[u8]> = pieces.iter().flat_map(|piece| piece.chunks(1)).take(1024).collect();
+    run(of, &bytes, end)
 }
 
-// A case of the domain that the original ends with `WouldOverflow`.
-pub fn overflows(case: &Case) -> bool {
-    in_domain(case) && in_pieces(case).is_some_and(|told| told.overflows())
-}
-
-// A case of the domain that is compared: F-4 and F-8 take others out of it.
-pub fn tells(case: &Case) -> bool {
-    in_domain(case) && in_pieces(case).is_some_and(|told| !told.overflows() && !told.announces())
-}
-
-// Document 01's domain of the comparison, but for a start that lends too little.
-pub fn in_domain(case: &Case) -> bool {
-    let host = model::strip(&case.host);
+// Document 01's domain of the comparison.
+pub fn in_domain(of: &Opening) -> bool {
+    let host = model::strip(&of.host);
     let lawful = |text: &[u8]| text.len() <= 255 && std::str::from_utf8(text).is_ok();
     let plain_host = !host.is_empty() && host.iter().all(|b| (0x21..=0x7E).contains(b));
-    let of_version = match case.version {
+    let of_version = match of.version {
         4 => host.len() <= 1014,
-        _ => !case.has(CREDENTIALS) || lawful(&case.user) && lawful(&case.password),
+        _ => !of.has(CREDENTIALS) || lawful(&of.user) && lawful(&of.password),
     };
-    plain_host && case.has(PORT) && of_version && model::opening(case) != 1
+    plain_host && of.has(PORT) && of_version
 }

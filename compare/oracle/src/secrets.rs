@@ -1,63 +1,106 @@
-//! Request F-6 on the programs: cases in pairs, alike but for the bytes of user and password, of equal lengths. The two
-//! lines are the same but for the sent bytes, and these are the same but where user and password stand.
-use crate::case::{CREDENTIALS, Case, hex};
-use crate::compare::counts;
+//! Request F-6 on `replay`: sessions and routes in pairs, alike but for the bytes of user and password, of equal
+//! lengths. The two lines are the same but for the sent bytes, and these are the same but where user and password stand.
+use crate::case::*;
+use crate::compare::{Figures, Run, ask};
 use crate::draw::Random;
 use crate::generate;
-use crate::hold::{Held, ask};
-use crate::model::{Step, plan};
-use crate::shrink::shrink;
-use std::collections::BTreeMap;
+use crate::model::{Step, openings, plan};
 
 // Pairs.
 const BATCH: usize = 2000;
-const SHOWN: usize = 10;
 // Of the cases that send no secret one in so many is taken.
 const WITHOUT: u64 = 8;
-// The fields that every line has, and the place of two of them.
-const FIELDS: usize = 8;
-const SENT: usize = 1;
-const OUTCOME: usize = 2;
+// The places of two fields in a line.
+const SENT: usize = 2;
+const OUTCOME: usize = 4;
 
-// A user or password, and where it stands in all sent bytes once these go so far.
-pub type Place<'a> = (usize, &'a [u8]);
-
-pub trait Secret: Held {
-    // Users and passwords, also those that no request holds.
-    fn secrets(&mut self) -> Vec<&mut Vec<u8>>;
-    fn places(&self) -> Vec<Place<'_>>;
+// Users and passwords, also those that no request holds.
+fn secrets(case: &mut Case) -> Vec<&mut Vec<u8>> {
+    let openings = match &mut case.kind {
+        Kind::Session(opening) => std::slice::from_mut(opening),
+        Kind::Route(route, _) => &mut route.proxies[..],
+        _ => &mut [],
+    };
+    openings.iter_mut().flat_map(|opening| [&mut opening.user, &mut opening.password]).collect()
 }
 
-// Of a session whose requests begin at this place: behind the greeting, 01 and a length; behind the user and a length.
-pub fn places_from(at: usize, version: u8, flags: u8, [user, password]: [&[u8]; 2]) -> Vec<Place<'_>> {
-    if version == 4 || flags & CREDENTIALS == 0 {
-        return vec![];
-    }
-    vec![(at + 5, user), (at + 6 + user.len(), password)]
-}
-
-// Of all requests together.
-pub fn requests_length(opening: &Case) -> usize {
+// Users and passwords that are not empty, and where each stands in all sent bytes once these go so far: behind all
+// requests to the proxies before, the greeting, 01 and a length; behind the user and a length.
+fn places(case: &Case) -> Vec<(usize, Vec<u8>)> {
+    let openings = match &case.kind {
+        Kind::Session(opening) => vec![opening.clone()],
+        Kind::Route(route, _) => openings(route),
+        _ => vec![],
+    };
     let length = |step: &Step| if let Step::Send(request) = step { request.len() } else { 0 };
-    plan(opening).iter().map(length).sum()
+    let (mut at, mut all) = (0, vec![]);
+    for opening in openings {
+        let requests: usize = plan(&opening).iter().map(length).sum();
+        if opening.version == 5 && opening.has(CREDENTIALS) {
+            let behind = at + 6 + opening.user.len();
+            all.extend([(at + 5, opening.user), (behind, opening.password)]);
+        }
+        at += requests;
+    }
+    all.retain(|(_, secret)| !secret.is_empty());
+    all
 }
 
-impl Secret for Case {
-    fn secrets(&mut self) -> Vec<&mut Vec<u8>> {
-        vec![&mut self.user, &mut self.password]
+// The line with stars for users and passwords among the sent bytes, if they stand there.
+fn masked(case: &Case, line: &str) -> Option<String> {
+    let mut fields: Vec<String> = line.split(' ').map(String::from).collect();
+    let sent = fields.get_mut(SENT)?;
+    for (at, secret) in places(case) {
+        let place = 2 * at..2 * (at + secret.len());
+        if sent.len() >= place.end {
+            sent.get(place.clone()).filter(|there| **there == hex(&secret))?;
+            sent.replace_range(place, &"*".repeat(2 * secret.len()));
+        }
     }
+    Some(fields.join(" "))
+}
 
-    fn places(&self) -> Vec<Place<'_>> {
-        places_from(0, self.version, self.flags, [&self.user, &self.password])
-    }
+// Changes the byte ahead of the last secret that was sent; answers whether there is one.
+fn plant(case: &Case, line: &mut String) -> bool {
+    let mut fields: Vec<String> = line.split(' ').map(String::from).collect();
+    let sent = fields
+        .get_mut(SENT)
+        .filter(|sent| masked(case, line).is_some_and(|masked| masked.split(' ').nth(SENT) != Some(sent)));
+    let Some(sent) = sent else {
+        return false;
+    };
+    let last = places(case).into_iter().rfind(|(at, secret)| sent.len() >= 2 * (at + secret.len()));
+    let digit = 2 * last.map_or(1, |(at, _)| at) - 1;
+    let other = if &sent[digit..=digit] == "0" { "1" } else { "0" };
+    sent.replace_range(digit..=digit, other);
+    *line = fields.join(" ");
+    true
 }
 
 // ---- pairs
 
+struct Pair {
+    cases: [Case; 2],
+    lines: [String; 2],
+}
+
+impl Pair {
+    fn held(&self) -> bool {
+        let [one, other] = [0, 1].map(|i| masked(&self.cases[i], &self.lines[i]));
+        one.is_some() && one == other
+    }
+
+    // In how many bytes the sent bytes differ.
+    fn differ(&self) -> usize {
+        let [one, other] = [0, 1].map(|i| self.lines[i].split(' ').nth(SENT).unwrap_or_default().as_bytes());
+        one.chunks(2).zip(other.chunks(2)).filter(|(a, b)| a != b).count()
+    }
+}
+
 // The case with other users and passwords, as long.
-fn other<C: Secret>(case: &C, seed: u64, number: u64) -> C {
+fn other(case: &Case, seed: u64, number: u64) -> Case {
     let (mut r, mut other) = (Random::new(!seed, number), case.clone());
-    for secret in other.secrets() {
+    for secret in secrets(&mut other) {
         let n = secret.len();
         *secret = match r.below(4) {
             0 => r.utf8(n),
@@ -69,165 +112,54 @@ fn other<C: Secret>(case: &C, seed: u64, number: u64) -> C {
     other
 }
 
-fn taken<C: Secret>(number: u64, case: &C) -> bool {
-    number % WITHOUT == WITHOUT - 1 || case.places().iter().any(|(_, secret)| !secret.is_empty())
+fn pairs(program: &str, seed: u64, cases: &[(u64, Case)]) -> Vec<Pair> {
+    let cases: Vec<_> = cases.iter().map(|(n, case)| [case.clone(), other(case, seed, *n)]).collect();
+    let mut lines = ask(program, cases.as_flattened()).into_iter();
+    cases.into_iter().map(|cases| Pair { cases, lines: [(); 2].map(|()| lines.next().unwrap_or_default()) }).collect()
 }
 
-// The lines of each case and of its other.
-fn lines<C: Secret>(program: &str, pairs: &[[C; 2]]) -> Vec<[String; 2]> {
-    let mut lines = ask(program, pairs.as_flattened()).into_iter();
-    pairs.iter().map(|_| [(); 2].map(|()| lines.next().unwrap_or_default())).collect()
-}
-
-// ---- two lines
-
-fn unhex(digits: &str) -> Option<Vec<u8>> {
-    let byte = |at: usize| u8::from_str_radix(digits.get(at..at + 2)?, 16).ok();
-    if digits == "-" { Some(vec![]) } else { (0..digits.len()).step_by(2).map(byte).collect() }
-}
-
-// A line in parts: the sent bytes, and the other fields.
-fn parts(line: &str) -> Option<(Vec<u8>, Vec<&str>)> {
-    let mut fields: Vec<&str> = line.split(' ').collect();
-    if fields.len() < FIELDS {
-        return None;
-    }
-    let sent = unhex(fields.remove(SENT))?;
-    Some((sent, fields))
-}
-
-// The sent bytes with zeros for each user and password, which must stand there.
-fn without<C: Secret>(case: &C, mut sent: Vec<u8>) -> Option<Vec<u8>> {
-    for (at, secret) in case.places() {
-        if let Some(bytes) = sent.get_mut(at..at + secret.len()) {
-            if bytes != secret {
-                return None;
-            }
-            bytes.fill(0);
-        }
-    }
-    Some(sent)
-}
-
-// In how many bytes the sent bytes differ, none of them outside the places; none: the lines are not as they should be.
-fn held<C: Secret>([one, other]: &[C; 2], [line, another]: &[String; 2]) -> Option<usize> {
-    let ((sent, fields), (others, other_fields)) = (parts(line)?, parts(another)?);
-    let differ = sent.iter().zip(&others).filter(|(a, b)| a != b).count();
-    let same = fields == other_fields && without(one, sent)? == without(other, others)?;
-    same.then_some(differ)
-}
-
-// Changes the byte ahead of the last password that was sent, in the second line; answers whether there is one.
-fn plant<C: Secret>(case: &C, line: &mut String) -> bool {
-    let Some((mut sent, _)) = parts(line) else {
-        return false;
-    };
-    let Some((at, _)) = case.places().into_iter().rev().find(|(at, secret)| at + secret.len() <= sent.len()) else {
-        return false;
-    };
-    sent[at - 1] ^= 1;
-    let mut fields: Vec<String> = line.split(' ').map(String::from).collect();
-    fields[SENT] = hex(&sent);
-    *line = fields.join(" ");
-    true
-}
-
-// ---- a run
-
-#[derive(Default)]
-struct Figures {
-    differ: usize,
-    bytes: usize,
-    outcomes: BTreeMap<String, usize>,
-    differences: usize,
-}
-
-impl Figures {
-    fn add(&mut self, bytes: usize, line: &str) {
-        self.differ += usize::from(bytes > 0);
-        self.bytes += bytes;
-        let outcome = line.split(' ').nth(OUTCOME).unwrap_or_default();
-        *self.outcomes.entry(format!("{outcome:>2}")).or_default() += 1;
-    }
-}
-
-struct Run<'a> {
-    seed: u64,
-    program: &'a str,
-    figures: Figures,
-}
-
-impl Run<'_> {
-    // Cut to the smallest case whose pair shows it.
-    fn show<C: Secret>(&mut self, number: u64, case: &C, planted: bool) {
-        self.figures.differences += 1;
-        if self.figures.differences > SHOWN {
-            return;
-        }
-        let pair = |case: &C| [case.clone(), other(case, self.seed, number)];
-        let told = |pairs: &[[C; 2]]| {
-            let mut lines = lines(self.program, pairs);
-            for (pair, lines) in pairs.iter().zip(&mut lines).filter(|_| planted) {
-                plant(&pair[1], &mut lines[1]);
-            }
-            lines
-        };
-        let differs = |cases: &[C]| {
-            let pairs: Vec<_> = cases.iter().map(pair).collect();
-            pairs.iter().zip(told(&pairs)).position(|(pair, lines)| held(pair, &lines).is_none())
-        };
-        let small = pair(&shrink(case, &differs));
-        let lines = told(std::slice::from_ref(&small)).remove(0);
-        println!("difference: {}, case {number} of seed {}, cut to the smallest input", self.program, self.seed);
-        for (case, line) in small.iter().zip(lines) {
-            println!("  case     {}\n  line     {line}", hex(&case.bytes()));
-        }
-    }
-
-    fn batch<C: Secret>(&mut self, cases: &[(u64, C)], at: u64, planting: &mut Option<u64>) {
-        let pairs: Vec<_> = cases.iter().map(|(n, case)| [case.clone(), other(case, self.seed, *n)]).collect();
-        let lines = lines(self.program, &pairs);
-        for (((place, (number, case)), pair), mut lines) in (at..).zip(cases).zip(&pairs).zip(lines) {
-            let planted = planting.is_some_and(|n| n <= place) && plant(&pair[1], &mut lines[1]);
-            if planted {
-                *planting = None;
-            }
-            match held(pair, &lines) {
-                Some(bytes) => self.figures.add(bytes, &lines[0]),
-                None => self.show(*number, case, planted),
-            }
-        }
-    }
-}
-
-// Answers the differences, and in how many pairs the sent bytes differ. With `plant`, one byte of one line is changed,
+// Answers the differences, and in how many pairs the sent bytes differ. With a plant, one byte of one line is changed,
 // in that pair or the next that can be.
-pub fn pairs<C: Secret>(
-    seed: u64,
-    count: u64,
-    program: &str,
-    mut plant: Option<u64>,
-    generate: fn(u64, u64) -> C,
-) -> (usize, usize) {
-    let mut run = Run { seed, program, figures: Figures::default() };
-    let mut cases = (0..).map(|n| (n, generate(seed, n))).filter(|(n, case)| taken(*n, case));
+fn of_kind(kind: u8, run: &mut Run, count: u64, program: &str, mut planting: Option<u64>) -> bool {
+    let (seed, mut figures, mut some_differ) = (run.seed, Figures::default(), false);
+    let taken = |n: u64, case: &Case| n % WITHOUT == WITHOUT - 1 || !places(case).is_empty();
+    let mut cases = (0..).map(|n| (n, generate::case(kind, seed, n))).filter(|(n, case)| taken(*n, case));
     for start in (0..count).step_by(BATCH) {
         let some: Vec<_> = cases.by_ref().take(BATCH.min((count - start) as usize)).collect();
-        run.batch(&some, start, &mut plant);
+        for ((at, (number, case)), mut pair) in (start..).zip(&some).zip(pairs(program, seed, &some)) {
+            let planted = planting.is_some_and(|n| n <= at) && plant(&pair.cases[1], &mut pair.lines[1]);
+            planting = planting.filter(|_| !planted);
+            if pair.held() {
+                figures.one("outcomes", pair.lines[0].split(' ').nth(OUTCOME).unwrap_or_default());
+                figures.one(
+                    "the sent bytes",
+                    if pair.differ() > 0 { "differ where user and password stand" } else { "are the same" },
+                );
+                figures.sum("bytes that differ", pair.differ());
+                some_differ |= pair.differ() > 0;
+                continue;
+            }
+            let told = |cases: &[Case]| {
+                let cases: Vec<_> = cases.iter().map(|case| (*number, case.clone())).collect();
+                let mut all = pairs(program, seed, &cases);
+                for pair in all.iter_mut().filter(|_| planted) {
+                    plant(&pair.cases[1], &mut pair.lines[1]);
+                }
+                all
+            };
+            run.show(*number, case, &|cases| told(cases).iter().position(|pair| !pair.held()), &|small| {
+                told(std::slice::from_ref(small)).remove(0).lines.map(|line| format!("line     {line}"))
+            });
+        }
     }
-    let Figures { differ, bytes, outcomes, differences } = run.figures;
-    println!(
-        "{program}: {count} pairs, in {differ} of them the sent bytes differ where user and password stand, in {bytes} \
-        bytes; {differences} differences\noutcomes: {}",
-        counts(&outcomes)
-    );
-    (differences, differ)
+    println!("{}: {count} pairs\n{}", if kind == b'S' { "sessions" } else { "routes" }, figures.text());
+    some_differ
 }
 
 // Of sessions and of routes, so many pairs each. Answers whether all is the same, with some sent bytes that differ.
-pub fn random(seed: u64, count: u64, [replay, route]: [&str; 2], plant: Option<u64>) -> bool {
-    let (first, told) = pairs(seed, count, replay, plant, generate::case);
-    let (second, routes_told) = crate::route::secrets::pairs(seed, count, route, plant);
-    println!("seed {seed}: {} pairs, {} differences", 2 * count, first + second);
-    first + second == 0 && told > 0 && routes_told > 0
+pub fn random(seed: u64, count: u64, program: &str, plant: Option<u64>) -> bool {
+    let mut run = Run::new(seed, Some(program), None);
+    let some_differ = [b'S', b'R'].map(|kind| of_kind(kind, &mut run, count, program, plant));
+    println!("seed {seed}: {} pairs, {} differences", 2 * count, run.differences);
+    run.differences == 0 && some_differ == [true; 2]
 }

@@ -1,35 +1,35 @@
 //! Random routes: most of them get far, some are refused by each of the checks.
-use super::case::{Proxy, Route};
-use super::model;
+use super::session::{bound_replies, credential, host, replies};
+use super::{cuts, delivered, stream};
 use crate::case::*;
+use crate::draft::*;
 use crate::draw::Random;
-use crate::generate::{bound_replies, credential, cuts, delivered, host, replies, stream};
-use crate::model::prepare;
+use crate::model::{openings, prepare};
 
 const PROXIES: [usize; 15] = [1, 1, 2, 2, 2, 2, 3, 3, 3, 4, 5, 6, 7, 8, 8];
 const TOO_MANY: [usize; 6] = [0, 0, 9, 9, 10, 255];
 
-pub fn case(seed: u64, number: u64) -> Route {
-    let mut r = Random::new(seed, number);
-    let mut route = opening(&mut r);
-    let replies = proxies_send(&mut r, &route);
-    arrives(&mut r, &mut route, replies);
+pub fn case(r: &mut Random) -> Draft<Route> {
+    let mut route = opening(r);
+    let replies = proxies_send(r, &route);
+    arrives(r, &mut route, replies);
     route
 }
 
 // ---- what is asked for
 
-fn opening(r: &mut Random) -> Route {
+fn opening(r: &mut Random) -> Draft<Route> {
     let n = if r.once_in(40) { r.one_of(&TOO_MANY) } else { r.one_of(&PROXIES) };
-    let mut route = Route { flags: 0, port: port(r), host: vec![], proxies: vec![], lent: 0, deliveries: vec![] };
+    let mut route = Draft::new(Route { flags: 0, port: port(r), host: vec![], proxies: vec![] });
     for flag in [END, ATTEMPTS] {
-        route.flags |= if r.once_in(2) { flag } else { 0 };
+        route.last |= if r.once_in(2) { flag } else { 0 };
     }
     let few = if n > 10 { 1 } else { 40 };
     for _ in 0..n {
         let version = if r.once_in(3) { 4 } else { 5 };
         let [user, password] = [(); 2].map(|()| short_credential(r, few));
-        route.proxies.push(Proxy { version, flags: flags(r), port: port(r), host: vec![], user, password });
+        let (flags, port) = (flags(r), port(r));
+        route.proxies.push(Opening { version, flags, port, host: vec![], user, password, records: vec![] });
     }
     // a defect or two, now and then
     let damaged = r.once_in(5);
@@ -43,10 +43,8 @@ fn opening(r: &mut Random) -> Route {
             _ => any_host(r, &route, i, any),
         };
         let given = if defect == 1 || i == 0 && r.once_in(4) { 0 } else { PORT };
-        let (flags, place) = match route.proxies.get_mut(i) {
-            Some(proxy) => (&mut proxy.flags, &mut proxy.host),
-            None => (&mut route.flags, &mut route.host),
-        };
+        let Route { flags, host, proxies, .. } = &mut route.of;
+        let (flags, place) = proxies.get_mut(i).map_or((flags, host), |proxy| (&mut proxy.flags, &mut proxy.host));
         *flags |= given;
         *place = text;
         if defect == 2 && i < n {
@@ -78,25 +76,10 @@ fn any_host(r: &mut Random, route: &Route, place: usize, any: bool) -> Vec<u8> {
     let version = if place == 0 { 5 } else { route.proxies[place - 1].version };
     loop {
         let text = host(r, version);
-        let asked = Case { version, flags: PORT, host: text.clone(), ..plain() };
+        let asked = Opening { host: text.clone(), ..base(version).of };
         if any || prepare(&asked) == 0 {
             return text;
         }
-    }
-}
-
-fn plain() -> Case {
-    Case {
-        version: 5,
-        flags: 0,
-        port: 0,
-        lent: Case::ENOUGH,
-        host: vec![],
-        user: vec![],
-        password: vec![],
-        records: vec![],
-        deliveries: vec![],
-        text_lent: 0,
     }
 }
 
@@ -114,13 +97,13 @@ fn lents(n: usize) -> (Vec<u16>, Vec<u16>) {
 fn proxies_send(r: &mut Random, route: &Route) -> Vec<Vec<u8>> {
     let n = route.proxies.len();
     let fails = if r.once_in(2) { n } else { r.below(n + 1) };
-    let openings = model::openings(route);
+    let openings = openings(route);
     openings.iter().zip(0..).map(|(o, i)| if i == fails { replies(r, o) } else { bound_replies(r, o, false) }).collect()
 }
 
 // ---- how it arrives
 
-fn arrives(r: &mut Random, route: &mut Route, replies: Vec<Vec<u8>>) {
+fn arrives(r: &mut Random, route: &mut Draft<Route>, replies: Vec<Vec<u8>>) {
     let (enough, short) = lents(route.proxies.len());
     let noisy = r.once_in(4);
     let pieces = if r.once_in(3) {
@@ -129,7 +112,7 @@ fn arrives(r: &mut Random, route: &mut Route, replies: Vec<Vec<u8>>) {
         let stream = stream(r, replies.concat());
         cuts(r, stream)
     };
-    route.deliveries = delivered(r, (&enough, &short), noisy, pieces);
+    route.calls = delivered(r, (&enough, &short), noisy, pieces);
 }
 
 // Cut where one proxy's replies end, or a few bytes beside.

@@ -1,56 +1,17 @@
-//! Request F-3 in plain Rust, over all bytes that were taken: what a case of the proxy's end must answer. Written from
-//! the words of document 02.
-use super::case::{Answer, Case, Given};
-use crate::case::{CREDENTIALS, END, Record, hex, lent};
-use crate::hold::Says;
-use crate::tunnel;
+//! The proxy's end, request F-3, over all bytes that were taken. Written from the words of document 02.
+use super::{Destination, Now, Outcome, Side};
+use crate::case::*;
 
 const OUTPUT: usize = 262;
 
 const LONGEST_USER_ID: usize = 255;
 const LONGEST_NAME4: usize = 1014;
 
-#[derive(Clone, PartialEq)]
-pub struct Destination {
-    // 4, 6 or n
-    pub kind: char,
-    pub address: Vec<u8>,
-    pub port: u16,
-}
-
-// The line of `replay_proxy`: that of `replay`, where an end that awaits the caller's answer is asked, and the
-// destination.
-#[derive(Clone, PartialEq)]
-pub struct Line {
-    pub told: tunnel::Line,
-    pub asked: bool,
-    pub destination: Option<Destination>,
-}
-
-impl Line {
-    pub fn outcome(&self) -> String {
-        let settled = self.told.outcome.map_or("waiting".into(), |n| n.to_string());
-        if self.asked { "asked".into() } else { settled }
-    }
-}
-
-impl Says for Line {
-    fn text(&self) -> String {
-        let destination = self.destination.as_ref();
-        let destination = destination.map_or("-".into(), |d| format!("{}:{}:{}", d.kind, hex(&d.address), d.port));
-        format!("{} {destination}", self.told.text_with(&self.outcome()))
-    }
-
-    fn sent(&mut self) -> &mut Vec<u8> {
-        &mut self.told.sent
-    }
-}
-
 // ---- set-up
 
 // 5 as in an opening, else 0.
-fn set_up(case: &Case) -> u8 {
-    if case.has(CREDENTIALS) && case.user.len().max(case.password.len()) > 255 { 5 } else { 0 }
+pub fn check(of: &SetUp) -> u8 {
+    if of.has(CREDENTIALS) && of.user.len().max(of.password.len()) > 255 { 5 } else { 0 }
 }
 
 // ---- what the client sends
@@ -64,7 +25,7 @@ enum Stop {
 type Read<T> = Result<T, Stop>;
 
 struct Stream<'a> {
-    case: &'a Case,
+    of: &'a SetUp,
     left: &'a [u8],
     sent: Vec<u8>,
 }
@@ -120,7 +81,7 @@ impl<'a> Stream<'a> {
             return self.request4();
         }
         self.greeting()?;
-        if self.case.has(CREDENTIALS) {
+        if self.of.has(CREDENTIALS) {
             self.credentials()?;
         }
         self.connect()
@@ -131,7 +92,7 @@ impl<'a> Stream<'a> {
         let n = self.byte()?;
         lawful(n != 0)?;
         let methods = self.take(n.into())?;
-        let chosen = if self.case.has(CREDENTIALS) { 2 } else { 0 };
+        let chosen = if self.of.has(CREDENTIALS) { 2 } else { 0 };
         if !methods.contains(&chosen) {
             return self.fail(&[5, 0xFF], 12, 0);
         }
@@ -143,7 +104,7 @@ impl<'a> Stream<'a> {
         let version = self.byte()?;
         lawful(version == 1)?;
         let (user, password) = (self.counted()?, self.counted()?);
-        if user != self.case.user || password != self.case.password {
+        if user != self.of.user || password != self.of.password {
             return self.fail(&[1, 1], 20, 0);
         }
         self.sent.extend([1, 0]);
@@ -182,7 +143,7 @@ impl<'a> Stream<'a> {
             _ => ('4', address.to_vec()),
         };
         lawful(!address.is_empty())?;
-        if self.case.has(CREDENTIALS) {
+        if self.of.has(CREDENTIALS) {
             return self.fail(&own4(91), 20, 0);
         }
         if command != 1 {
@@ -227,98 +188,74 @@ fn answered(version: u8, Answer { status, bound, port }: &Answer) -> (Vec<u8>, O
 // ---- the end
 
 // What all bytes taken, and the caller's answer if it was taken, have come to.
-pub struct State {
-    pub sent: Vec<u8>,
-    pub used: usize,
-    pub outcome: Option<u8>,
-    pub status: u8,
-    pub asked: bool,
-    pub destination: Option<Destination>,
-}
-
-fn state(case: &Case, taken: &[u8], answer: Option<&Answer>) -> State {
-    let mut now = State { sent: vec![], used: 0, outcome: None, status: 0, asked: false, destination: None };
-    if set_up(case) != 0 {
-        now.outcome = Some(set_up(case));
+fn state(of: &SetUp, taken: &[u8], answer: Option<&Answer>) -> Now {
+    let mut now = Now::default();
+    if check(of) != 0 {
+        now.outcome = Outcome::Settled(check(of));
         return now;
     }
-    let mut stream = Stream { case, left: taken, sent: vec![] };
+    let mut stream = Stream { of, left: taken, sent: vec![] };
     let read = stream.requests();
     (now.used, now.sent) = (taken.len() - stream.left.len(), stream.sent);
     match read {
         Err(Stop::Waiting) => now.used = taken.len(),
-        Err(Stop::Failed(number, status)) => (now.outcome, now.status) = (Some(number), status),
-        Ok(destination) => {
-            now.destination = Some(destination);
-            now.asked = answer.is_none();
-        }
+        Err(Stop::Failed(number, status)) => (now.outcome, now.status) = (Outcome::Settled(number), status),
+        Ok(destination) => (now.outcome, now.destination) = (Outcome::Asked, Some(destination)),
     }
     if let Some(answer) = answer {
         let (reply, failed) = answered(taken[0], answer);
         now.sent.extend(reply);
-        now.outcome = Some(if failed.is_some() { 15 } else { 0 });
+        now.outcome = Outcome::Settled(if failed.is_some() { 15 } else { 0 });
         now.status = failed.unwrap_or(0);
     }
     now
 }
 
-// 16 for a call out of turn, then 1 for too little output.
-fn check(now: &State, lends: u16, given: &Given) -> u8 {
-    let turn = now.outcome.is_none() && now.asked == matches!(given, Given::Answer(_));
-    if !turn {
-        16
-    } else if lent(lends) < OUTPUT {
-        1
-    } else {
+pub struct End<'a> {
+    of: &'a SetUp,
+    taken: Vec<u8>,
+    answer: Option<Answer>,
+    now: Now,
+}
+
+pub fn end(of: &SetUp) -> End<'_> {
+    End { of, taken: vec![], answer: None, now: state(of, &[], None) }
+}
+
+impl End<'_> {
+    // 16 for a call out of turn, then 1 for too little output.
+    fn refused(&self, call: &Call) -> Option<u8> {
+        let (turn, short) = match call {
+            Call::Answer(n, _) => (Outcome::Asked, lent(*n) < OUTPUT),
+            Call::Piece(n, _) => (Outcome::Waiting, lent(*n) < OUTPUT),
+            _ => (Outcome::Waiting, false),
+        };
+        if self.now.outcome != turn { Some(16) } else { short.then_some(1) }
+    }
+}
+
+impl Side for End<'_> {
+    fn asks(&self) -> usize {
+        OUTPUT
+    }
+
+    fn call(&mut self, call: &Call) -> u8 {
+        if let Some(number) = self.refused(call) {
+            return number;
+        }
+        match call {
+            Call::Piece(_, piece) => self.taken.extend(piece),
+            Call::Answer(_, answer) => self.answer = Some(answer.clone()),
+            _ => {
+                self.now.outcome = Outcome::Settled(9);
+                return 0;
+            }
+        }
+        self.now = state(self.of, &self.taken, self.answer.as_ref());
         0
     }
-}
 
-// The line, and the bytes used.
-pub fn run(case: &Case) -> (Line, Vec<u8>) {
-    let (mut taken, mut answer) = (vec![], None);
-    let (mut rests, mut answers) = (vec![], vec![]);
-    let mut now = state(case, &taken, answer);
-    for call in &case.calls {
-        let number = check(&now, call.lent, &call.given);
-        answers.push(number);
-        let before = now.used;
-        if number == 0 {
-            match &call.given {
-                Given::Piece(piece) => taken.extend(piece),
-                Given::Answer(given) => answer = Some(given),
-            }
-            now = state(case, &taken, answer);
-        }
-        if let Given::Piece(piece) = &call.given
-            && lent(call.lent) >= OUTPUT
-        {
-            rests.extend(&piece[now.used - before..]);
-        }
+    fn now(&self) -> Now {
+        self.now.clone()
     }
-    let waits = now.outcome.is_none() && !now.asked;
-    let end = case.has(END).then_some(if waits { 0 } else { 16 });
-    let outcome = if end == Some(0) { Some(9) } else { now.outcome };
-    let State { sent, used: total, status, asked, destination, .. } = now;
-    taken.truncate(total);
-    let open = set_up(case);
-    let told = tunnel::Line { rests, sent, outcome, status, total, open, answers, end, bound: None, attempts: None };
-    (Line { told, asked, destination }, taken)
-}
-
-pub fn answer(case: &Case) -> Line {
-    run(case).0
-}
-
-// What `replay_proxy` must print for this input.
-pub fn answers(input: &[u8]) -> String {
-    let (mut left, mut lines) = (input, String::new());
-    while !left.is_empty() {
-        let at = input.len() - left.len();
-        let Some(case) = Case::read(&mut left) else {
-            return lines + &format!("bad case at {at}\n");
-        };
-        lines += &(answer(&case).text() + "\n");
-    }
-    lines
 }

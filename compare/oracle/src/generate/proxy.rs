@@ -1,10 +1,11 @@
 //! Random cases of the proxy's end: most hand out a destination, some meet each of the refusals.
-use super::build::*;
-use super::case::{Answer, Case, Given, Turn};
-use super::model;
+use super::session::credential;
+use super::{Lent, cuts, delivered, stream};
 use crate::case::*;
+use crate::draft::*;
 use crate::draw::Random;
-use crate::generate::{Lent, credential, cuts, delivered, stream};
+use crate::model::{self, Outcome};
+use crate::requests::*;
 
 const LENT: Lent<'static> = (&[262, 262, 262, 263, 778, 2047, 2048, 2049, 65535], &[0, 1, 100, 260, 261, 261]);
 const METHODS: [usize; 10] = [0, 1, 2, 2, 3, 3, 4, 100, 254, 255];
@@ -13,18 +14,19 @@ const USER_IDS: [usize; 12] = [1, 2, 3, 8, 20, 100, 253, 254, 255, 255, 256, 257
 const NAMES4: [usize; 14] = [0, 1, 1, 2, 3, 11, 100, 255, 256, 1013, 1014, 1014, 1015, 1016];
 const STATUSES: [u8; 18] = [0, 1, 2, 3, 4, 5, 6, 7, 8, 9, 89, 90, 91, 92, 93, 94, 128, 255];
 
-pub fn case(seed: u64, number: u64) -> Case {
-    let mut r = Random::new(seed, number);
-    let mut case = set_up(&mut r);
-    let requests = requests(&mut r, &case);
+pub fn case(r: &mut Random) -> Draft<SetUp> {
+    let mut case = set_up(r);
+    let requests = requests(r, &case);
     let version = requests[0];
-    let stream = stream(&mut r, requests);
-    arrives(&mut r, &mut case, stream);
-    answers(&mut r, &mut case, version);
+    let stream = stream(r, requests);
+    let noisy = r.once_in(4);
+    let pieces = cuts(r, stream);
+    case.calls = delivered(r, LENT, noisy, pieces);
+    answers(r, &mut case, version);
     case
 }
 
-fn set_up(r: &mut Random) -> Case {
+fn set_up(r: &mut Random) -> Draft<SetUp> {
     let mut flags = [CREDENTIALS, END].into_iter().filter(|_| r.once_in(2)).sum();
     if r.once_in(40) {
         flags |= r.byte() & !(CREDENTIALS | END);
@@ -32,7 +34,7 @@ fn set_up(r: &mut Random) -> Case {
     // without the flag mostly none
     let any = flags & CREDENTIALS != 0 || r.once_in(8);
     let [user, password] = [(); 2].map(|()| if any { credential(r) } else { vec![] });
-    Case { flags, user, password, calls: vec![] }
+    Draft::new(SetUp { flags: 0, user, password }).flag(flags)
 }
 
 // ---- what the client sends
@@ -48,12 +50,12 @@ fn mostly(r: &mut Random, byte: u8, n: usize) -> u8 {
     }
 }
 
-fn requests(r: &mut Random, case: &Case) -> Vec<u8> {
+fn requests(r: &mut Random, case: &SetUp) -> Vec<u8> {
     let v4 = r.once_in(if case.has(CREDENTIALS) { 8 } else { 2 });
     if v4 { requests4(r) } else { requests5(r, case) }
 }
 
-fn requests5(r: &mut Random, case: &Case) -> Vec<u8> {
+fn requests5(r: &mut Random, case: &SetUp) -> Vec<u8> {
     let right = if case.has(CREDENTIALS) { 2 } else { 0 };
     let n = if r.once_in(2) { 1 } else { r.one_of(&METHODS) };
     let mut methods = r.bytes(n);
@@ -82,7 +84,7 @@ fn requests5(r: &mut Random, case: &Case) -> Vec<u8> {
 }
 
 // Those of the set-up, or nearly.
-fn credentials_for(r: &mut Random, case: &Case) -> Vec<u8> {
+fn credentials_for(r: &mut Random, case: &SetUp) -> Vec<u8> {
     let (mut user, mut password) = (case.user.clone(), case.password.clone());
     if r.once_in(8) {
         let wrong = if r.once_in(2) { &mut user } else { &mut password };
@@ -126,18 +128,11 @@ fn user_id(r: &mut Random) -> Vec<u8> {
 
 // ---- how it arrives
 
-fn arrives(r: &mut Random, case: &mut Case, stream: Vec<u8>) {
-    let noisy = r.once_in(4);
-    let pieces = cuts(r, stream);
-    let deliveries = delivered(r, LENT, noisy, pieces);
-    case.calls = deliveries.into_iter().map(|d| Turn { lent: d.lent, given: Given::Piece(d.piece) }).collect();
-}
-
 // Mostly one, behind the delivery that hands out the destination or behind them all; others out of turn.
-fn answers(r: &mut Random, case: &mut Case, version: u8) {
-    let line = model::answer(case);
-    let due = line.told.answers.iter().rposition(|number| *number == 0).map_or(0, |last| last + 1);
-    if line.asked && r.once_in(3) {
+fn answers(r: &mut Random, case: &mut Draft<SetUp>, version: u8) {
+    let line = model::line(&Case { kind: Kind::End(case.of.clone()), calls: case.calls.clone() });
+    let due = line.calls.iter().rposition(|entry| entry.number == 0).map_or(0, |last| last + 1);
+    if line.outcome == Outcome::Asked && r.once_in(3) {
         case.calls.truncate(due);
     }
     if !r.once_in(8) {
@@ -154,12 +149,12 @@ fn answers(r: &mut Random, case: &mut Case, version: u8) {
     }
     if r.once_in(4) {
         let piece = r.some_bytes(8);
-        let late = Turn::delivery(r.one_of(LENT.0), &piece);
+        let late = Call::Piece(r.one_of(LENT.0), piece);
         case.calls.push(late);
     }
 }
 
-fn answer(r: &mut Random, version: u8, short: bool) -> Turn {
+pub fn answer(r: &mut Random, version: u8, short: bool) -> Call {
     let status = match r.below(4) {
         0 => r.one_of(&STATUSES),
         1 if version == 4 => r.one_of(&[91, 92, 93]),
@@ -174,5 +169,5 @@ fn answer(r: &mut Random, version: u8, short: bool) -> Turn {
     };
     let bound = (r.one_of(&[4, 6]), if r.once_in(2) { r.six() } else { r.bytes(16).try_into().unwrap() });
     let lent = if short { r.one_of(LENT.1) } else { r.one_of(LENT.0) };
-    Turn { lent, given: Given::Answer(Answer { status, bound, port: r.port() }) }
+    Call::Answer(lent, Answer { status, bound, port: r.port() })
 }

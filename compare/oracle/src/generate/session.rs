@@ -1,5 +1,7 @@
-//! Random cases over document 01's whole domain, its boundaries, and somewhat beyond.
+//! Random sessions over document 01's whole domain, its boundaries, and somewhat beyond.
+use super::{Lent, cuts, delivered, stream};
 use crate::case::*;
+use crate::draft::*;
 use crate::draw::{EDGES, Random};
 use crate::model;
 
@@ -17,37 +19,26 @@ const CREDENTIALS_OF: [usize; 20] =
 // Text buffers lent, whatever the text's length.
 const TEXTS: [u16; 12] = [0, 1, 2, 47, 48, 260, 261, 262, 2047, 2048, 2049, 65535];
 
-pub type Lent<'a> = (&'a [u16], &'a [u16]);
-
-// About half of the cases ask for the text, and about half of either for the attempts.
-pub fn case(seed: u64, number: u64) -> Case {
-    let mut r = Random::new(seed, number);
-    let mut case = uncounted(&mut r);
+// Most of them ask for the text or for the attempts.
+pub fn case(r: &mut Random) -> Draft<Opening> {
+    let mut case = textual(r);
     if r.once_in(2) {
-        case.flags |= ATTEMPTS;
+        case.last |= ATTEMPTS;
     }
     case
 }
 
 // The same, but for the attempts.
-pub fn textual(seed: u64, number: u64) -> Case {
-    uncounted(&mut Random::new(seed, number))
-}
-
-// A case that asks for neither.
-pub fn plain(seed: u64, number: u64) -> Case {
-    untold(&mut Random::new(seed, number))
-}
-
-fn uncounted(r: &mut Random) -> Case {
-    let mut case = untold(r);
+pub fn textual(r: &mut Random) -> Draft<Opening> {
+    let mut case = plain(r);
     if r.once_in(2) {
         ask(r, &mut case);
     }
     case
 }
 
-fn untold(r: &mut Random) -> Case {
+// A case that asks for neither.
+pub fn plain(r: &mut Random) -> Draft<Opening> {
     let mut case = opening(r);
     if case.has(CREDENTIALS) && r.once_in(3) {
         near_its_buffer(r, &mut case);
@@ -59,42 +50,38 @@ fn untold(r: &mut Random) -> Case {
     case
 }
 
-fn arrives(r: &mut Random, case: &mut Case, replies: Vec<u8>) {
+fn arrives(r: &mut Random, case: &mut Draft<Opening>, replies: Vec<u8>) {
     let stream = stream(r, replies);
     let lent = if case.version == 4 { DELIVERY4 } else { CALL5 };
-    case.deliveries = deliveries(r, lent, stream);
+    let noisy = r.once_in(4);
+    let pieces = cuts(r, stream);
+    case.calls = delivered(r, lent, noisy, pieces);
 }
 
 // The text too, with a buffer near its length; most replies are made anew, so that more of them open a session.
-fn ask(r: &mut Random, case: &mut Case) {
-    case.flags |= TEXT;
+fn ask(r: &mut Random, case: &mut Draft<Opening>) {
+    case.last |= TEXT;
     if !r.once_in(4) {
         let fails = r.once_in(8);
         let replies = bound_replies(r, case, fails);
         arrives(r, case, replies);
     }
     case.text_lent = u16::MAX;
-    let n = model::answer(case).bound.map_or(0, |(_, text)| text.len() as u16);
+    let told = model::line(&case.clone().case()).calls.pop().and_then(|entry| entry.text);
+    let n = told.map_or(0, |text| text.len() as u16);
     let near = r.one_of(&[n, n, n, n.saturating_sub(1), n.saturating_sub(1), n + 1]);
     case.text_lent = if r.once_in(3) { r.one_of(&TEXTS) } else { near };
 }
 
-fn opening(r: &mut Random) -> Case {
+fn opening(r: &mut Random) -> Draft<Opening> {
     let version = if r.once_in(3) { 4 } else { 5 };
     let (enough, short) = if version == 4 { START4 } else { CALL5 };
     let n = r.one_of(&[0, 1, 1, 2, 3, 5, 7, 8]);
-    Case {
-        version,
-        flags: flags(r),
-        port: r.one_of(&[0, 1, 80, 255, 256, 443, 443, 65535]),
-        lent: if r.once_in(12) { r.one_of(short) } else { r.one_of(enough) },
-        host: host(r, version),
-        user: credential(r),
-        password: credential(r),
-        records: (0..n).map(|_| record(r)).collect(),
-        deliveries: vec![],
-        text_lent: 0,
-    }
+    let (flags, port) = (flags(r), r.one_of(&[0, 1, 80, 255, 256, 443, 443, 65535]));
+    let lent = if r.once_in(12) { r.one_of(short) } else { r.one_of(enough) };
+    let (host, user, password) = (host(r, version), credential(r), credential(r));
+    let records = (0..n).map(|_| record(r)).collect();
+    Draft::new(Opening { version, flags: 0, port, host, user, password, records }).lent(lent).flag(flags)
 }
 
 fn flags(r: &mut Random) -> u8 {
@@ -169,7 +156,7 @@ pub fn credential(r: &mut Random) -> Vec<u8> {
 }
 
 // All requests together as long as the original's send buffer, or a little below or above.
-fn near_its_buffer(r: &mut Random, case: &mut Case) {
+fn near_its_buffer(r: &mut Random, case: &mut Draft<Opening>) {
     let others = 3 + 3 + model::connect(case).len();
     let wanted = r.one_of(&[260usize, 261, 262, 262, 263, 263, 264, 265]);
     let Some(most) = wanted.checked_sub(others) else {
@@ -181,7 +168,7 @@ fn near_its_buffer(r: &mut Random, case: &mut Case) {
 }
 
 // A name, a user and a password of 255 bytes, or a few less.
-fn at_their_longest(r: &mut Random, case: &mut Case) {
+fn at_their_longest(r: &mut Random, case: &mut Draft<Opening>) {
     let [name, user, password] = [(); 3].map(|()| r.one_of(&[252, 253, 254, 254, 255, 255, 255]));
     case.host = r.text(name, b"abcxyz0129-._");
     case.user = r.utf8(user);
@@ -190,31 +177,7 @@ fn at_their_longest(r: &mut Random, case: &mut Case) {
 
 // ---- what the proxy sends
 
-pub fn stream(r: &mut Random, mut stream: Vec<u8>) -> Vec<u8> {
-    if r.once_in(6) {
-        stream = r.damaged(stream, &[0, 1, 2, 3, 4, 5, 8, 9, 0x5A, 0x5B, 0x80, 0xFF]);
-    }
-    match r.below(16) {
-        0 => stream = r.some_bytes(400),
-        1 => stream.extend(stream.clone()),
-        2..=5 => {
-            stream.truncate(r.below(stream.len() + 1));
-            return stream;
-        }
-        _ => {}
-    }
-    let behind = match r.below(1000) {
-        0 => 65535,
-        1..=20 => r.below(3000),
-        21..=40 => r.one_of(&[255, 261, 262, 512, 513, 514, 1026]),
-        41..=500 => r.below(12),
-        _ => 0,
-    };
-    stream.extend(r.bytes(behind));
-    stream
-}
-
-pub fn replies(r: &mut Random, case: &Case) -> Vec<u8> {
+pub fn replies(r: &mut Random, case: &Opening) -> Vec<u8> {
     if case.version == 4 { reply4(r) } else { replies5(r, case) }
 }
 
@@ -224,7 +187,7 @@ fn reply4(r: &mut Random) -> Vec<u8> {
     [&[first, code], &r.bytes(6)[..]].concat()
 }
 
-fn replies5(r: &mut Random, case: &Case) -> Vec<u8> {
+fn replies5(r: &mut Random, case: &Opening) -> Vec<u8> {
     let credentials = case.has(CREDENTIALS);
     let right = if credentials { 2 } else { 0 };
     let method = if r.once_in(12) { r.one_of(&[0, 1, 2, 3, 0x7F, 0x80, 0xFE, 0xFF]) } else { right };
@@ -266,7 +229,7 @@ fn bound_name(r: &mut Random) -> Vec<u8> {
 }
 
 // Replies as they should be, but for a status if they are to fail, with addresses at the edges of their texts.
-pub fn bound_replies(r: &mut Random, case: &Case, fails: bool) -> Vec<u8> {
+pub fn bound_replies(r: &mut Random, case: &Opening, fails: bool) -> Vec<u8> {
     let port = r.port().to_be_bytes();
     if case.version == 4 {
         return [&[0, if fails { 91 } else { 90 }], &port[..], &r.four()].concat();
@@ -282,54 +245,4 @@ pub fn bound_replies(r: &mut Random, case: &Case, fails: bool) -> Vec<u8> {
         _ => [&[4], &r.six()[..]].concat(),
     };
     [start, &[5, u8::from(fails), 0], &address, &port].concat()
-}
-
-// ---- how it arrives
-
-pub fn cuts(r: &mut Random, mut stream: Vec<u8>) -> Vec<Vec<u8>> {
-    let way = r.below(8);
-    let most = 1 + r.below(40);
-    let mut pieces = vec![];
-    while !stream.is_empty() {
-        let n = match way {
-            0..=2 if pieces.len() < 600 => 1,
-            3 | 4 if pieces.len() < 600 => 1 + r.below(most),
-            5 => 1 + r.below(stream.len()),
-            6 => r.one_of(&[1, 2, 3, 5, 7, 10, 255, 261, 262, 263, 512, 513, 514]),
-            _ => stream.len(),
-        };
-        let later = stream.split_off(n.min(stream.len()).min(65535));
-        pieces.push(std::mem::replace(&mut stream, later));
-    }
-    pieces
-}
-
-fn deliveries(r: &mut Random, lent: Lent, stream: Vec<u8>) -> Vec<Delivery> {
-    let noisy = r.once_in(4);
-    let pieces = cuts(r, stream);
-    delivered(r, lent, noisy, pieces)
-}
-
-pub fn delivered(r: &mut Random, lent: Lent, noisy: bool, pieces: Vec<Vec<u8>>) -> Vec<Delivery> {
-    let mut all = vec![];
-    for piece in pieces {
-        if noisy && r.once_in(3) {
-            all.push(noise(r, lent, &piece));
-        }
-        all.push(Delivery { lent: r.one_of(lent.0), piece });
-    }
-    if noisy {
-        all.push(noise(r, lent, b"more"));
-    }
-    all
-}
-
-// An empty piece, or one that comes with too little output: the next one tried before, or another.
-fn noise(r: &mut Random, (enough, short): Lent, piece: &[u8]) -> Delivery {
-    match r.below(4) {
-        0 => Delivery { lent: r.one_of(enough), piece: vec![] },
-        1 => Delivery { lent: r.one_of(short), piece: vec![] },
-        2 => Delivery { lent: r.one_of(short), piece: piece.to_vec() },
-        _ => Delivery { lent: r.one_of(short), piece: r.some_bytes(20) },
-    }
 }

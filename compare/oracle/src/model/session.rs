@@ -1,7 +1,6 @@
-//! Document 01 with requests F-1, F-4, F-7, F-8 and F-11 in plain Rust: what a case must answer, field by field.
-//! Written from their words, not from the original.
+//! One session by document 01 with requests F-1, F-4, F-7 and F-8 in plain Rust: what preparing checks, what a session
+//! sends and expects, and the plain machine. Written from their words, not from the original.
 use crate::case::*;
-use crate::tunnel::{Line, Tunnel};
 use std::net::IpAddr;
 
 // ---- Host, Address text, Lookup
@@ -13,7 +12,7 @@ pub fn strip(host: &[u8]) -> &[u8] {
     }
 }
 
-fn address_text(host: &[u8]) -> Option<IpAddr> {
+pub fn address_text(host: &[u8]) -> Option<IpAddr> {
     std::str::from_utf8(host).ok()?.parse().ok()
 }
 
@@ -24,12 +23,12 @@ pub fn address(record: &Record) -> IpAddr {
     }
 }
 
-fn looked_up(case: &Case) -> Option<IpAddr> {
+fn looked_up(case: &Opening) -> Option<IpAddr> {
     case.records.iter().map(address).find(|ip| case.version == 5 || ip.is_ipv4())
 }
 
 // The address asked for, typed or looked up; none means the name is sent.
-fn asked(case: &Case) -> Option<IpAddr> {
+fn asked(case: &Opening) -> Option<IpAddr> {
     match address_text(strip(&case.host)) {
         None if case.has(LOCAL_LOOKUP) => looked_up(case),
         text => text,
@@ -46,17 +45,17 @@ fn announces(ip: IpAddr) -> bool {
 // The longest requests of a v5 session: greeting, credentials, connect.
 const OUTPUT5: usize = 3 + 513 + 262;
 
-pub fn start_asks(case: &Case) -> usize {
+pub fn start_asks(case: &Opening) -> usize {
     if case.version == 5 { OUTPUT5 } else { 1024 }
 }
 
-pub fn delivery_asks(case: &Case) -> usize {
+pub fn delivery_asks(case: &Opening) -> usize {
     if case.version == 5 { OUTPUT5 } else { 262 }
 }
 
 // ---- Opening v5, Opening v4: the number of the first check that refuses, else 0
 
-pub fn prepare(case: &Case) -> u8 {
+pub fn prepare(case: &Opening) -> u8 {
     let (v5, host) = (case.version == 5, strip(&case.host));
     let text = address_text(host);
     let lookup_fails = || case.has(LOCAL_LOOKUP) && looked_up(case).is_none();
@@ -81,26 +80,18 @@ pub fn prepare(case: &Case) -> u8 {
     }
 }
 
-// Of both calls: preparing, and what it accepts is started.
-pub fn opening(case: &Case) -> u8 {
-    match prepare(case) {
-        0 if lent(case.lent) < start_asks(case) => 1,
-        number => number,
-    }
-}
-
 // ---- v5 requests, v4 request
 
-fn method(case: &Case) -> u8 {
+fn method(case: &Opening) -> u8 {
     if case.has(CREDENTIALS) { 2 } else { 0 }
 }
 
-fn credentials(case: &Case) -> Vec<u8> {
+fn credentials(case: &Opening) -> Vec<u8> {
     let (user, password) = (&case.user[..], &case.password[..]);
     [&[1, user.len() as u8], user, &[password.len() as u8], password].concat()
 }
 
-pub fn connect(case: &Case) -> Vec<u8> {
+pub fn connect(case: &Opening) -> Vec<u8> {
     let host = strip(&case.host);
     let destination = match asked(case) {
         Some(IpAddr::V4(ip)) => [&[1], &ip.octets()[..]].concat(),
@@ -110,7 +101,7 @@ pub fn connect(case: &Case) -> Vec<u8> {
     [&[5, 1, 0], &destination[..], &case.port.to_be_bytes()].concat()
 }
 
-fn request4(case: &Case) -> Vec<u8> {
+fn request4(case: &Opening) -> Vec<u8> {
     let start = [&[4, 1], &case.port.to_be_bytes()[..]].concat();
     match asked(case) {
         Some(IpAddr::V4(ip)) => [&start, &ip.octets()[..], &[0]].concat(),
@@ -229,7 +220,7 @@ fn six_text(address: &[u8; 16]) -> String {
     }
 }
 
-fn bound_text((address, port): &(Bound, u16)) -> Vec<u8> {
+pub fn bound_text((address, port): &(Bound, u16)) -> Vec<u8> {
     let mut text = match address {
         Bound::Four([a, b, c, d]) => format!("{a}.{b}.{c}.{d}").into_bytes(),
         Bound::Six(address) => format!("[{}]", six_text(address)).into_bytes(),
@@ -247,7 +238,7 @@ pub enum Step {
 }
 
 // What a started session sends and expects, in order.
-pub fn plan(case: &Case) -> Vec<Step> {
+pub fn plan(case: &Opening) -> Vec<Step> {
     use Step::*;
     if case.version == 4 {
         return vec![Send(request4(case)), Expect(Reply::V4)];
@@ -270,7 +261,7 @@ pub struct State {
     pub used: usize,
     // replies, good or bad
     pub decided: usize,
-    bound: Option<(Bound, u16)>,
+    pub bound: Option<(Bound, u16)>,
 }
 
 pub fn machine(steps: &[Step], list: &[u8]) -> State {
@@ -296,33 +287,4 @@ pub fn machine(steps: &[Step], list: &[u8]) -> State {
     }
     now.outcome = Some(0);
     now
-}
-
-// ---- the session, Text
-
-// Of a session that is open: its bound address's text.
-fn text(open: Option<&State>, lent: usize) -> (u8, Vec<u8>) {
-    match open.and_then(|now| now.bound.as_ref()) {
-        None => (17, vec![]),
-        Some(bound) => {
-            let text = bound_text(bound);
-            if lent < text.len() { (18, vec![]) } else { (0, text) }
-        }
-    }
-}
-
-pub fn answer(case: &Case) -> Line {
-    let open = opening(case);
-    let tunnel = Tunnel {
-        open,
-        // what only the start refused is prepared still
-        refused: (open != 1).then_some(open),
-        plans: if open == 0 { vec![plan(case)] } else { vec![] },
-        asks: delivery_asks(case),
-        deliveries: case.deliveries.iter().map(|d| (lent(d.lent), &d.piece[..])).collect(),
-        flags: case.flags,
-    };
-    let (line, begun) = tunnel.run();
-    let open = begun.last().filter(|_| line.outcome == Some(0));
-    Line { bound: case.has(TEXT).then(|| text(open, lent(case.text_lent))), ..line }
 }
