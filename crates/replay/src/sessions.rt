@@ -2,10 +2,10 @@
 use crate::tally;
 use crate::tally::Call;
 use crate::tally::Tally;
+use crate::tally::call_of;
 use cases::Opening;
-use cases::lent_at;
 use input::places::byte_at;
-use input::places::part;
+use input::places::number_at;
 use input::places::past;
 use input::places::text_at;
 use protocol::Outcome;
@@ -14,9 +14,10 @@ use report::Writer;
 use socks::Prepared;
 use socks::Session;
 
-struct Course {
+// A session, and what came of the call before.
+struct Turn {
     session: Session,
-    tally: Tally,
+    call: Call,
 }
 
 fn prepare(s: &[u8], opening: Opening) -> Prepared {
@@ -33,116 +34,117 @@ fn prepare(s: &[u8], opening: Opening) -> Prepared {
     owned_records::prepare5(config, host, port, user, password, list, count)
 }
 
-// The output that a delivery asks.
-fn room_of(version: u8) -> usize {
-    if version == 4 {
-        return 262;
+fn begin(s: &[u8]) -> Turn {
+    let prepared = prepare(s, cases::opening_at(s, 1));
+    let answer = prepared.answer;
+    let session = prepared.session;
+    Turn {
+        session,
+        call: call_of(answer, 0, 0),
     }
-    778
 }
 
-fn start(course: Course, s: &[u8], at: usize, kept: &mut [u8], text: &mut [u8]) -> Course {
-    let before = course.session;
-    let tally = course.tally;
-    let lent = lent_at(s, past(s, at, 1));
-    let started = before.start(tally::output(kept, lent));
+fn start(session: Session, out: &mut [u8]) -> Turn {
+    let started = session.start(out);
     let answer = started.answer;
-    let session = started.session;
-    let call = Call {
-        lent,
-        answer,
-        used: 0,
-        sent: started.sent,
-    };
-    Course {
-        session,
-        tally: tally::take_sent(tally, call, kept, text),
+    let next = started.session;
+    Turn {
+        session: next,
+        call: call_of(answer, 0, started.sent),
     }
 }
 
-fn deliver(course: Course, s: &[u8], at: usize, kept: &mut [u8], text: &mut [u8]) -> Course {
-    let before = course.session;
-    let tally = course.tally;
-    let lent = lent_at(s, past(s, at, 1));
-    let piece = text_at(s, past(s, at, 3));
-    let delivered = before.deliver(piece, tally::output(kept, lent));
+fn deliver(session: Session, piece: &[u8], out: &mut [u8]) -> Turn {
+    let delivered = session.deliver(piece, out);
     let answer = delivered.answer;
-    let session = delivered.session;
-    let call = Call {
-        lent,
-        answer,
-        used: delivered.used,
-        sent: delivered.sent,
-    };
-    Course {
-        session,
-        tally: tally::take_delivery(tally, call, piece, kept, text),
+    let next = delivered.session;
+    Turn {
+        session: next,
+        call: call_of(answer, delivered.used, delivered.sent),
     }
 }
 
-fn end(course: Course, text: &mut [u8]) -> Course {
-    let before = course.session;
-    let tally = course.tally;
-    let ended = before.end();
+fn end(session: Session) -> Turn {
+    let ended = session.end();
     let answer = ended.answer;
-    let session = ended.session;
-    Course {
-        session,
-        tally: tally::take_answer(tally, answer, text),
+    let next = ended.session;
+    Turn {
+        session: next,
+        call: call_of(answer, 0, 0),
     }
 }
 
-// The bound address as text. The session stays.
-fn put_bound(
+// The text of the bound address.
+fn bound_text(session: Session, out: &mut [u8]) -> Call {
+    let written = session.bound_text(out);
+    let answer = written.answer;
+    call_of(answer, 0, written.len)
+}
+
+// The number of attempts.
+fn attempts(session: Session) -> Call {
+    Call {
+        number: session.attempts(),
+        used: 0,
+        sent: 0,
+    }
+}
+
+// Before a call. at: its place.
+struct Course {
     session: Session,
     tally: Tally,
-    lent: usize,
-    kept: &mut [u8],
-    text: &mut [u8],
-) -> Tally {
-    let written = session.bound_text(tally::output(kept, lent));
-    let answer = written.answer;
-    tally::take_text(tally, answer, part(kept, 0, written.len), text)
+    at: usize,
 }
 
-// A call that leaves the session as it is: its text or its attempts.
-fn ask(course: Course, s: &[u8], at: usize, kept: &mut [u8], text: &mut [u8]) -> Course {
-    let session = course.session;
-    let tally = course.tally;
-    if byte_at(s, at) == b'b' {
-        return Course {
-            session,
-            tally: put_bound(session, tally, lent_at(s, past(s, at, 1)), kept, text),
-        };
-    }
-    Course {
-        session,
-        tally: tally::take_number(tally, session.attempts(), text),
-    }
-}
-
-fn take_call(course: Course, s: &[u8], at: usize, kept: &mut [u8], text: &mut [u8]) -> Course {
+// The call at a place, with what is lent to it.
+fn take_call(session: Session, s: &[u8], at: usize, out: &mut [u8]) -> Turn {
     let call = byte_at(s, at);
     if call == b's' {
-        return start(course, s, at, kept, text);
+        return start(session, out);
     }
     if call == b'd' {
-        return deliver(course, s, at, kept, text);
+        return deliver(session, text_at(s, past(s, at, 3)), out);
     }
     if call == b'e' {
-        return end(course, text);
+        return end(session);
     }
-    ask(course, s, at, kept, text)
+    if call == b'b' {
+        return Turn {
+            session,
+            call: bound_text(session, out),
+        };
+    }
+    Turn {
+        session,
+        call: attempts(session),
+    }
 }
 
-fn take_calls(first: Course, s: &[u8], at: usize, kept: &mut [u8], text: &mut [u8]) -> Course {
+// A call, and the place of the next.
+fn step(course: Course, s: &[u8], kept: &mut [u8], text: &mut [u8]) -> Course {
+    let at = course.at;
+    let lent = cases::lent_at(s, past(s, at, 1));
+    let turn = take_call(course.session, s, at, tally::output(kept, lent));
+    let session = turn.session;
+    Course {
+        session,
+        tally: tally::take(course.tally, turn.call, s, at, kept, text),
+        at: cases::call_end(s, at, b'S'),
+    }
+}
+
+fn take_calls(first: Course, count: u16, s: &[u8], kept: &mut [u8], text: &mut [u8]) -> Course {
     let mut course = first;
-    let mut next = past(s, at, 2);
-    for i in 0..input::places::number_at(s, at) {
-        course = take_call(course, s, next, kept, text);
-        next = cases::call_end(s, next, b'S');
+    for i in 0..count {
+        course = step(course, s, kept, text);
     }
     course
+}
+
+fn finish(course: Course, kept: &[u8], text: &mut [u8]) -> Writer {
+    let session = course.session;
+    tally::finish(course.tally, state_of(session.outcome()), kept, text)
 }
 
 // How a session or a route stands.
@@ -154,14 +156,26 @@ pub fn state_of(outcome: Outcome) -> State {
     }
 }
 
+// The output that a delivery asks.
+fn room_of(version: u8) -> usize {
+    if version == 4 {
+        return 262;
+    }
+    778
+}
+
 pub fn run(s: &[u8], writer: Writer, kept: &mut [u8], text: &mut [u8]) -> Writer {
-    let opening = cases::opening_at(s, 1);
-    let prepared = prepare(s, opening);
-    let answer = prepared.answer;
-    let session = prepared.session;
-    let tally = tally::begin(writer, answer, room_of(opening.version), text);
-    let course = take_calls(Course { session, tally }, s, cases::calls_at(s), kept, text);
-    let last = course.session;
-    let told = course.tally;
-    tally::finish(told, state_of(last.outcome()), kept, text)
+    let turn = begin(s);
+    let session = turn.session;
+    let calls = cases::calls_at(s);
+    let first = Course {
+        session,
+        tally: tally::check(writer, turn.call, room_of(byte_at(s, 1)), text),
+        at: past(s, calls, 2),
+    };
+    finish(
+        take_calls(first, number_at(s, calls), s, kept, text),
+        kept,
+        text,
+    )
 }
