@@ -108,36 +108,6 @@ fn handed_out(server: Server, before: Target) -> Target {
     }
 }
 
-// Before a call. target: the destination that was handed out; before, one of no bytes. at: the call's place.
-struct Course {
-    server: Server,
-    target: Target,
-    tally: Tally,
-    at: usize,
-}
-
-// A call, and the place of the next.
-fn step(course: Course, s: &[u8], kept: &mut [u8], text: &mut [u8]) -> Course {
-    let at = course.at;
-    let lent = cases::lent_at(s, past(s, at, 1));
-    let turn = take_call(course.server, s, at, tally::output(kept, lent));
-    let server = turn.server;
-    Course {
-        server,
-        target: handed_out(server, course.target),
-        tally: tally::take(course.tally, turn.call, s, at, kept, text),
-        at: cases::call_end(s, at, b'P'),
-    }
-}
-
-fn take_calls(first: Course, count: u16, s: &[u8], kept: &mut [u8], text: &mut [u8]) -> Course {
-    let mut course = first;
-    for i in 0..count {
-        course = step(course, s, kept, text);
-    }
-    course
-}
-
 fn state_of(outcome: Outcome) -> State {
     match outcome {
         Outcome::Waiting => State::Waiting,
@@ -181,26 +151,41 @@ fn put_destination(start: Writer, text: &mut [u8], target: Target) -> Writer {
     put_number(writer, text, target.port as u64)
 }
 
-fn finish(course: Course, kept: &[u8], text: &mut [u8]) -> Writer {
-    let server = course.server;
-    let line = tally::finish(course.tally, state_of(server.outcome()), kept, text);
+fn finish(server: Server, target: Target, tally: Tally, kept: &[u8], text: &mut [u8]) -> Writer {
+    let line = tally::finish(tally, state_of(server.outcome()), kept, text);
     let writer = put_byte(line, text, b' ');
-    put_destination(writer, text, course.target)
+    put_destination(writer, text, target)
+}
+
+// The next call, with the output that it lends.
+fn next_call(before: Turn, s: &[u8], at: usize, kept: &mut [u8]) -> Turn {
+    let lent = cases::lent_at(s, past(s, at, 1));
+    take_call(before.server, s, at, tally::output(kept, lent))
+}
+
+fn take_calls(
+    first: Turn,
+    begun: Tally,
+    s: &[u8],
+    from: usize,
+    kept: &mut [u8],
+    text: &mut [u8],
+) -> Writer {
+    let mut turn = first;
+    let mut target = no_target();
+    let mut tally = begun;
+    let mut at = past(s, from, 2);
+    for i in 0..number_at(s, from) {
+        turn = next_call(turn, s, at, kept);
+        target = handed_out(turn.server, target);
+        tally = tally::take(tally, turn.call, s, at, kept, text);
+        at = cases::call_end(s, at, b'P');
+    }
+    finish(turn.server, target, tally, kept, text)
 }
 
 pub fn run(s: &[u8], writer: Writer, kept: &mut [u8], text: &mut [u8]) -> Writer {
-    let turn = begin(s);
-    let server = turn.server;
-    let calls = cases::calls_at(s);
-    let first = Course {
-        server,
-        target: no_target(),
-        tally: tally::check(writer, turn.call, ROOM, text),
-        at: past(s, calls, 2),
-    };
-    finish(
-        take_calls(first, number_at(s, calls), s, kept, text),
-        kept,
-        text,
-    )
+    let first = begin(s);
+    let tally = tally::check(writer, first.call, ROOM, text);
+    take_calls(first, tally, s, cases::calls_at(s), kept, text)
 }

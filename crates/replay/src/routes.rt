@@ -65,13 +65,6 @@ fn attempts(route: Route) -> Call {
     }
 }
 
-// Before a call. at: its place.
-struct Course {
-    route: Route,
-    tally: Tally,
-    at: usize,
-}
-
 // The call at a place, with what is lent to it.
 fn take_call(route: Route, s: &[u8], at: usize, out: &mut [u8]) -> Turn {
     let call = byte_at(s, at);
@@ -87,49 +80,42 @@ fn take_call(route: Route, s: &[u8], at: usize, out: &mut [u8]) -> Turn {
     }
 }
 
-// A call, and the place of the next.
-fn step(course: Course, s: &[u8], kept: &mut [u8], text: &mut [u8]) -> Course {
-    let at = course.at;
+// The next call, with the output that it lends.
+fn next_call(before: Turn, s: &[u8], at: usize, kept: &mut [u8]) -> Turn {
     let lent = cases::lent_at(s, past(s, at, 1));
-    let turn = take_call(course.route, s, at, tally::output(kept, lent));
-    let route = turn.route;
-    Course {
-        route,
-        tally: tally::take(course.tally, turn.call, s, at, kept, text),
-        at: cases::call_end(s, at, b'R'),
-    }
+    take_call(before.route, s, at, tally::output(kept, lent))
 }
 
-fn take_calls(first: Course, count: u16, s: &[u8], kept: &mut [u8], text: &mut [u8]) -> Course {
-    let mut course = first;
-    for i in 0..count {
-        course = step(course, s, kept, text);
+fn take_calls(
+    first: Turn,
+    begun: Tally,
+    s: &[u8],
+    from: usize,
+    kept: &mut [u8],
+    text: &mut [u8],
+) -> Writer {
+    let mut turn = first;
+    let mut tally = begun;
+    let mut at = past(s, from, 2);
+    for i in 0..number_at(s, from) {
+        turn = next_call(turn, s, at, kept);
+        tally = tally::take(tally, turn.call, s, at, kept, text);
+        at = cases::call_end(s, at, b'R');
     }
-    course
-}
-
-fn finish(course: Course, kept: &[u8], text: &mut [u8]) -> Writer {
-    let route = course.route;
-    tally::finish(course.tally, state_of(route.outcome()), kept, text)
+    let last = turn.route;
+    tally::finish(tally, state_of(last.outcome()), kept, text)
 }
 
 // The output lent to the opening stands behind the proxies.
-fn start(s: &[u8], writer: Writer, kept: &mut [u8], text: &mut [u8]) -> Course {
-    let target = cases::target_at(s, 1);
-    let end = cases::proxies_end(s, target.proxies);
-    let lent = cases::lent_at(s, end);
-    let turn = begin(s, target, tally::output(kept, lent));
-    let route = turn.route;
-    let room = 1024 * byte_at(s, target.proxies) as usize;
-    Course {
-        route,
-        tally: tally::check_sent(writer, turn.call, room, kept, text),
-        at: past(s, end, 4),
-    }
+fn start(s: &[u8], target: Target, kept: &mut [u8]) -> Turn {
+    let lent = cases::lent_at(s, cases::proxies_end(s, target.proxies));
+    begin(s, target, tally::output(kept, lent))
 }
 
 pub fn run(s: &[u8], writer: Writer, kept: &mut [u8], text: &mut [u8]) -> Writer {
-    let first = start(s, writer, kept, text);
-    let count = number_at(s, cases::calls_at(s));
-    finish(take_calls(first, count, s, kept, text), kept, text)
+    let target = cases::target_at(s, 1);
+    let first = start(s, target, kept);
+    let room = 1024 * byte_at(s, target.proxies) as usize;
+    let tally = tally::check_sent(writer, first.call, room, kept, text);
+    take_calls(first, tally, s, cases::calls_at(s), kept, text)
 }

@@ -90,13 +90,6 @@ fn attempts(session: Session) -> Call {
     }
 }
 
-// Before a call. at: its place.
-struct Course {
-    session: Session,
-    tally: Tally,
-    at: usize,
-}
-
 // The call at a place, with what is lent to it.
 fn take_call(session: Session, s: &[u8], at: usize, out: &mut [u8]) -> Turn {
     let call = byte_at(s, at);
@@ -121,30 +114,30 @@ fn take_call(session: Session, s: &[u8], at: usize, out: &mut [u8]) -> Turn {
     }
 }
 
-// A call, and the place of the next.
-fn step(course: Course, s: &[u8], kept: &mut [u8], text: &mut [u8]) -> Course {
-    let at = course.at;
+// The next call, with the output that it lends.
+fn next_call(before: Turn, s: &[u8], at: usize, kept: &mut [u8]) -> Turn {
     let lent = cases::lent_at(s, past(s, at, 1));
-    let turn = take_call(course.session, s, at, tally::output(kept, lent));
-    let session = turn.session;
-    Course {
-        session,
-        tally: tally::take(course.tally, turn.call, s, at, kept, text),
-        at: cases::call_end(s, at, b'S'),
-    }
+    take_call(before.session, s, at, tally::output(kept, lent))
 }
 
-fn take_calls(first: Course, count: u16, s: &[u8], kept: &mut [u8], text: &mut [u8]) -> Course {
-    let mut course = first;
-    for i in 0..count {
-        course = step(course, s, kept, text);
+fn take_calls(
+    first: Turn,
+    begun: Tally,
+    s: &[u8],
+    from: usize,
+    kept: &mut [u8],
+    text: &mut [u8],
+) -> Writer {
+    let mut turn = first;
+    let mut tally = begun;
+    let mut at = past(s, from, 2);
+    for i in 0..number_at(s, from) {
+        turn = next_call(turn, s, at, kept);
+        tally = tally::take(tally, turn.call, s, at, kept, text);
+        at = cases::call_end(s, at, b'S');
     }
-    course
-}
-
-fn finish(course: Course, kept: &[u8], text: &mut [u8]) -> Writer {
-    let session = course.session;
-    tally::finish(course.tally, state_of(session.outcome()), kept, text)
+    let last = turn.session;
+    tally::finish(tally, state_of(last.outcome()), kept, text)
 }
 
 // How a session or a route stands.
@@ -165,17 +158,7 @@ fn room_of(version: u8) -> usize {
 }
 
 pub fn run(s: &[u8], writer: Writer, kept: &mut [u8], text: &mut [u8]) -> Writer {
-    let turn = begin(s);
-    let session = turn.session;
-    let calls = cases::calls_at(s);
-    let first = Course {
-        session,
-        tally: tally::check(writer, turn.call, room_of(byte_at(s, 1)), text),
-        at: past(s, calls, 2),
-    };
-    finish(
-        take_calls(first, number_at(s, calls), s, kept, text),
-        kept,
-        text,
-    )
+    let first = begin(s);
+    let tally = tally::check(writer, first.call, room_of(byte_at(s, 1)), text);
+    take_calls(first, tally, s, cases::calls_at(s), kept, text)
 }
