@@ -2,7 +2,7 @@
 use crate::tally;
 use crate::tally::Call;
 use crate::tally::Tally;
-use cases::lent_at;
+use crate::tally::call_of;
 use input::places::byte_at;
 use input::places::number_at;
 use input::places::part;
@@ -12,7 +12,6 @@ use input::places::text_end;
 use protocol::AddressKind;
 use proxy::Outcome;
 use proxy::Server;
-use proxy::SetUp;
 use proxy::Target;
 use report::State;
 use report::Writer;
@@ -23,11 +22,10 @@ use report::put_number;
 // The output that a delivery asks.
 const ROOM: usize = 262;
 
-// target: the destination that was handed out; before, one of no bytes.
-struct Course {
+// The proxy's end, and what came of the call before.
+struct Turn {
     server: Server,
-    target: Target,
-    tally: Tally,
+    call: Call,
 }
 
 fn no_target() -> Target {
@@ -39,16 +37,68 @@ fn no_target() -> Target {
     }
 }
 
-fn set_up(s: &[u8]) -> SetUp {
+fn begin(s: &[u8]) -> Turn {
     let user = past(s, 1, 1);
-    proxy::set_up(
+    let set = proxy::set_up(
         cases::has(byte_at(s, 1), 1),
         text_at(s, user),
         text_at(s, text_end(s, user)),
-    )
+    );
+    let answer = set.answer;
+    let server = set.server;
+    Turn {
+        server,
+        call: call_of(answer, 0, 0),
+    }
 }
 
-// The destination that was handed out last, after a delivery.
+fn deliver(server: Server, piece: &[u8], out: &mut [u8]) -> Turn {
+    let delivered = server.deliver(piece, out);
+    let answer = delivered.answer;
+    let next = delivered.server;
+    Turn {
+        server: next,
+        call: call_of(answer, delivered.used, delivered.sent),
+    }
+}
+
+// The caller's answer at a place.
+fn answer(server: Server, s: &[u8], at: usize, out: &mut [u8]) -> Turn {
+    let status = byte_at(s, past(s, at, 3));
+    let bound = cases::record_at(s, past(s, at, 4));
+    let port = number_at(s, past(s, at, 21));
+    let answered = server.answer(status, bound, port, out);
+    let answer = answered.answer;
+    let next = answered.server;
+    Turn {
+        server: next,
+        call: call_of(answer, 0, answered.sent),
+    }
+}
+
+fn end(server: Server) -> Turn {
+    let ended = server.end();
+    let answer = ended.answer;
+    let next = ended.server;
+    Turn {
+        server: next,
+        call: call_of(answer, 0, 0),
+    }
+}
+
+// The call at a place, with what is lent to it.
+fn take_call(server: Server, s: &[u8], at: usize, out: &mut [u8]) -> Turn {
+    let call = byte_at(s, at);
+    if call == b'd' {
+        return deliver(server, text_at(s, past(s, at, 3)), out);
+    }
+    if call == b'a' {
+        return answer(server, s, at, out);
+    }
+    end(server)
+}
+
+// The destination that was handed out last.
 fn handed_out(server: Server, before: Target) -> Target {
     match server.outcome() {
         Outcome::Waiting => before,
@@ -56,88 +106,6 @@ fn handed_out(server: Server, before: Target) -> Target {
         Outcome::Open => before,
         Outcome::Failed(error) => before,
     }
-}
-
-fn deliver(course: Course, s: &[u8], at: usize, kept: &mut [u8], text: &mut [u8]) -> Course {
-    let before = course.server;
-    let target = course.target;
-    let tally = course.tally;
-    let lent = lent_at(s, past(s, at, 1));
-    let piece = text_at(s, past(s, at, 3));
-    let delivered = before.deliver(piece, tally::output(kept, lent));
-    let answer = delivered.answer;
-    let server = delivered.server;
-    let call = Call {
-        lent,
-        answer,
-        used: delivered.used,
-        sent: delivered.sent,
-    };
-    Course {
-        server,
-        target: handed_out(server, target),
-        tally: tally::take_delivery(tally, call, piece, kept, text),
-    }
-}
-
-// The caller's answer.
-fn answer(course: Course, s: &[u8], at: usize, kept: &mut [u8], text: &mut [u8]) -> Course {
-    let before = course.server;
-    let target = course.target;
-    let tally = course.tally;
-    let status = byte_at(s, past(s, at, 3));
-    let bound = cases::record_at(s, past(s, at, 4));
-    let port = number_at(s, past(s, at, 21));
-    let lent = lent_at(s, past(s, at, 1));
-    let answered = before.answer(status, bound, port, tally::output(kept, lent));
-    let answer = answered.answer;
-    let server = answered.server;
-    let call = Call {
-        lent,
-        answer,
-        used: 0,
-        sent: answered.sent,
-    };
-    Course {
-        server,
-        target,
-        tally: tally::take_sent(tally, call, kept, text),
-    }
-}
-
-fn end(course: Course, text: &mut [u8]) -> Course {
-    let before = course.server;
-    let target = course.target;
-    let tally = course.tally;
-    let ended = before.end();
-    let answer = ended.answer;
-    let server = ended.server;
-    Course {
-        server,
-        target,
-        tally: tally::take_answer(tally, answer, text),
-    }
-}
-
-fn take_call(course: Course, s: &[u8], at: usize, kept: &mut [u8], text: &mut [u8]) -> Course {
-    let call = byte_at(s, at);
-    if call == b'd' {
-        return deliver(course, s, at, kept, text);
-    }
-    if call == b'a' {
-        return answer(course, s, at, kept, text);
-    }
-    end(course, text)
-}
-
-fn take_calls(first: Course, s: &[u8], at: usize, kept: &mut [u8], text: &mut [u8]) -> Course {
-    let mut course = first;
-    let mut next = past(s, at, 2);
-    for i in 0..number_at(s, at) {
-        course = take_call(course, s, next, kept, text);
-        next = cases::call_end(s, next, b'P');
-    }
-    course
 }
 
 fn state_of(outcome: Outcome) -> State {
@@ -183,24 +151,41 @@ fn put_destination(start: Writer, text: &mut [u8], target: Target) -> Writer {
     put_number(writer, text, target.port as u64)
 }
 
-fn finish(course: Course, kept: &[u8], text: &mut [u8]) -> Writer {
-    let server = course.server;
-    let tally = course.tally;
+fn finish(server: Server, target: Target, tally: Tally, kept: &[u8], text: &mut [u8]) -> Writer {
     let line = tally::finish(tally, state_of(server.outcome()), kept, text);
     let writer = put_byte(line, text, b' ');
-    put_destination(writer, text, course.target)
+    put_destination(writer, text, target)
+}
+
+// The next call, with the output that it lends.
+fn next_call(before: Turn, s: &[u8], at: usize, kept: &mut [u8]) -> Turn {
+    let lent = cases::lent_at(s, past(s, at, 1));
+    take_call(before.server, s, at, tally::output(kept, lent))
+}
+
+fn take_calls(
+    first: Turn,
+    begun: Tally,
+    s: &[u8],
+    from: usize,
+    kept: &mut [u8],
+    text: &mut [u8],
+) -> Writer {
+    let mut turn = first;
+    let mut target = no_target();
+    let mut tally = begun;
+    let mut at = past(s, from, 2);
+    for i in 0..number_at(s, from) {
+        turn = next_call(turn, s, at, kept);
+        target = handed_out(turn.server, target);
+        tally = tally::take(tally, turn.call, s, at, kept, text);
+        at = cases::call_end(s, at, b'P');
+    }
+    finish(turn.server, target, tally, kept, text)
 }
 
 pub fn run(s: &[u8], writer: Writer, kept: &mut [u8], text: &mut [u8]) -> Writer {
-    let set = set_up(s);
-    let answer = set.answer;
-    let server = set.server;
-    let tally = tally::begin(writer, answer, ROOM, text);
-    let first = Course {
-        server,
-        target: no_target(),
-        tally,
-    };
-    let course = take_calls(first, s, cases::calls_at(s), kept, text);
-    finish(course, kept, text)
+    let first = begin(s);
+    let tally = tally::check(writer, first.call, ROOM, text);
+    take_calls(first, tally, s, cases::calls_at(s), kept, text)
 }

@@ -3,18 +3,20 @@ use crate::sessions::state_of;
 use crate::tally;
 use crate::tally::Call;
 use crate::tally::Tally;
+use crate::tally::call_of;
 use cases::Target;
-use cases::lent_at;
 use input::places::byte_at;
+use input::places::number_at;
 use input::places::past;
 use input::places::text_at;
 use report::Writer;
 use route::Opened;
 use route::Route;
 
-struct Course {
+// A route, and what came of the call before.
+struct Turn {
     route: Route,
-    tally: Tally,
+    call: Call,
 }
 
 fn open(s: &[u8], target: Target, out: &mut [u8]) -> Opened {
@@ -24,81 +26,96 @@ fn open(s: &[u8], target: Target, out: &mut [u8]) -> Opened {
     route::open(proxies, count, s, text_at(s, target.host), port, out)
 }
 
-fn begin(s: &[u8], writer: Writer, kept: &mut [u8], text: &mut [u8]) -> Course {
-    let target = cases::target_at(s, 1);
-    let lent = lent_at(s, cases::proxies_end(s, target.proxies));
-    let opened = open(s, target, tally::output(kept, lent));
+fn begin(s: &[u8], target: Target, out: &mut [u8]) -> Turn {
+    let opened = open(s, target, out);
     let answer = opened.answer;
     let route = opened.route;
-    let room = 1024 * byte_at(s, target.proxies) as usize;
-    Course {
+    Turn {
         route,
-        tally: tally::begin_sent(writer, answer, opened.sent, room, kept, text),
+        call: call_of(answer, 0, opened.sent),
     }
 }
 
-fn deliver(course: Course, s: &[u8], at: usize, kept: &mut [u8], text: &mut [u8]) -> Course {
-    let before = course.route;
-    let tally = course.tally;
-    let lent = lent_at(s, past(s, at, 1));
-    let piece = text_at(s, past(s, at, 3));
-    let delivered = before.deliver(piece, tally::output(kept, lent));
+fn deliver(route: Route, piece: &[u8], out: &mut [u8]) -> Turn {
+    let delivered = route.deliver(piece, out);
     let answer = delivered.answer;
-    let route = delivered.route;
-    let call = Call {
-        lent,
-        answer,
-        used: delivered.used,
-        sent: delivered.sent,
-    };
-    Course {
-        route,
-        tally: tally::take_delivery(tally, call, piece, kept, text),
+    let next = delivered.route;
+    Turn {
+        route: next,
+        call: call_of(answer, delivered.used, delivered.sent),
     }
 }
 
-fn end(course: Course, text: &mut [u8]) -> Course {
-    let before = course.route;
-    let tally = course.tally;
-    let ended = before.end();
+fn end(route: Route) -> Turn {
+    let ended = route.end();
     let answer = ended.answer;
-    let route = ended.route;
-    Course {
-        route,
-        tally: tally::take_answer(tally, answer, text),
+    let next = ended.route;
+    Turn {
+        route: next,
+        call: call_of(answer, 0, 0),
     }
 }
 
-fn take_call(course: Course, s: &[u8], at: usize, kept: &mut [u8], text: &mut [u8]) -> Course {
+// The number of attempts.
+fn attempts(route: Route) -> Call {
+    Call {
+        number: route.attempts(),
+        used: 0,
+        sent: 0,
+    }
+}
+
+// The call at a place, with what is lent to it.
+fn take_call(route: Route, s: &[u8], at: usize, out: &mut [u8]) -> Turn {
     let call = byte_at(s, at);
     if call == b'd' {
-        return deliver(course, s, at, kept, text);
+        return deliver(route, text_at(s, past(s, at, 3)), out);
     }
     if call == b'e' {
-        return end(course, text);
+        return end(route);
     }
-    let route = course.route;
-    let tally = course.tally;
-    Course {
+    Turn {
         route,
-        tally: tally::take_number(tally, route.attempts(), text),
+        call: attempts(route),
     }
 }
 
-fn take_calls(first: Course, s: &[u8], at: usize, kept: &mut [u8], text: &mut [u8]) -> Course {
-    let mut course = first;
-    let mut next = past(s, at, 2);
-    for i in 0..input::places::number_at(s, at) {
-        course = take_call(course, s, next, kept, text);
-        next = cases::call_end(s, next, b'R');
+// The next call, with the output that it lends.
+fn next_call(before: Turn, s: &[u8], at: usize, kept: &mut [u8]) -> Turn {
+    let lent = cases::lent_at(s, past(s, at, 1));
+    take_call(before.route, s, at, tally::output(kept, lent))
+}
+
+fn take_calls(
+    first: Turn,
+    begun: Tally,
+    s: &[u8],
+    from: usize,
+    kept: &mut [u8],
+    text: &mut [u8],
+) -> Writer {
+    let mut turn = first;
+    let mut tally = begun;
+    let mut at = past(s, from, 2);
+    for i in 0..number_at(s, from) {
+        turn = next_call(turn, s, at, kept);
+        tally = tally::take(tally, turn.call, s, at, kept, text);
+        at = cases::call_end(s, at, b'R');
     }
-    course
+    let last = turn.route;
+    tally::finish(tally, state_of(last.outcome()), kept, text)
+}
+
+// The output lent to the opening stands behind the proxies.
+fn start(s: &[u8], target: Target, kept: &mut [u8]) -> Turn {
+    let lent = cases::lent_at(s, cases::proxies_end(s, target.proxies));
+    begin(s, target, tally::output(kept, lent))
 }
 
 pub fn run(s: &[u8], writer: Writer, kept: &mut [u8], text: &mut [u8]) -> Writer {
-    let first = begin(s, writer, kept, text);
-    let course = take_calls(first, s, cases::calls_at(s), kept, text);
-    let last = course.route;
-    let tally = course.tally;
-    tally::finish(tally, state_of(last.outcome()), kept, text)
+    let target = cases::target_at(s, 1);
+    let first = start(s, target, kept);
+    let room = 1024 * byte_at(s, target.proxies) as usize;
+    let tally = tally::check_sent(writer, first.call, room, kept, text);
+    take_calls(first, tally, s, cases::calls_at(s), kept, text)
 }

@@ -2,10 +2,10 @@
 use crate::tally;
 use crate::tally::Call;
 use crate::tally::Tally;
+use crate::tally::call_of;
 use cases::Opening;
-use cases::lent_at;
 use input::places::byte_at;
-use input::places::part;
+use input::places::number_at;
 use input::places::past;
 use input::places::text_at;
 use protocol::Outcome;
@@ -16,9 +16,10 @@ use socks::Session;
 use socks::v4;
 use socks::v5;
 
-struct Course {
+// A session, and what came of the call before.
+struct Turn {
     session: Session,
-    tally: Tally,
+    call: Call,
 }
 
 fn prepare(s: &[u8], opening: Opening) -> Prepared {
@@ -35,116 +36,110 @@ fn prepare(s: &[u8], opening: Opening) -> Prepared {
     v5::prepare_chosen(config, host, port, user, password, chosen)
 }
 
-// The output that a delivery asks.
-fn room_of(version: u8) -> usize {
-    if version == 4 {
-        return 262;
+fn begin(s: &[u8]) -> Turn {
+    let prepared = prepare(s, cases::opening_at(s, 1));
+    let answer = prepared.answer;
+    let session = prepared.session;
+    Turn {
+        session,
+        call: call_of(answer, 0, 0),
     }
-    778
 }
 
-fn start(course: Course, s: &[u8], at: usize, kept: &mut [u8], text: &mut [u8]) -> Course {
-    let before = course.session;
-    let tally = course.tally;
-    let lent = lent_at(s, past(s, at, 1));
-    let started = before.start(tally::output(kept, lent));
+fn start(session: Session, out: &mut [u8]) -> Turn {
+    let started = session.start(out);
     let answer = started.answer;
-    let session = started.session;
-    let call = Call {
-        lent,
-        answer,
-        used: 0,
-        sent: started.sent,
-    };
-    Course {
-        session,
-        tally: tally::take_sent(tally, call, kept, text),
+    let next = started.session;
+    Turn {
+        session: next,
+        call: call_of(answer, 0, started.sent),
     }
 }
 
-fn deliver(course: Course, s: &[u8], at: usize, kept: &mut [u8], text: &mut [u8]) -> Course {
-    let before = course.session;
-    let tally = course.tally;
-    let lent = lent_at(s, past(s, at, 1));
-    let piece = text_at(s, past(s, at, 3));
-    let delivered = before.deliver(piece, tally::output(kept, lent));
+fn deliver(session: Session, piece: &[u8], out: &mut [u8]) -> Turn {
+    let delivered = session.deliver(piece, out);
     let answer = delivered.answer;
-    let session = delivered.session;
-    let call = Call {
-        lent,
-        answer,
-        used: delivered.used,
-        sent: delivered.sent,
-    };
-    Course {
-        session,
-        tally: tally::take_delivery(tally, call, piece, kept, text),
+    let next = delivered.session;
+    Turn {
+        session: next,
+        call: call_of(answer, delivered.used, delivered.sent),
     }
 }
 
-fn end(course: Course, text: &mut [u8]) -> Course {
-    let before = course.session;
-    let tally = course.tally;
-    let ended = before.end();
+fn end(session: Session) -> Turn {
+    let ended = session.end();
     let answer = ended.answer;
-    let session = ended.session;
-    Course {
-        session,
-        tally: tally::take_answer(tally, answer, text),
+    let next = ended.session;
+    Turn {
+        session: next,
+        call: call_of(answer, 0, 0),
     }
 }
 
-// The bound address as text. The session stays.
-fn put_bound(
-    session: Session,
-    tally: Tally,
-    lent: usize,
-    kept: &mut [u8],
-    text: &mut [u8],
-) -> Tally {
-    let written = session.bound_text(tally::output(kept, lent));
+// The text of the bound address.
+fn bound_text(session: Session, out: &mut [u8]) -> Call {
+    let written = session.bound_text(out);
     let answer = written.answer;
-    tally::take_text(tally, answer, part(kept, 0, written.len), text)
+    call_of(answer, 0, written.len)
 }
 
-// A call that leaves the session as it is: its text or its attempts.
-fn ask(course: Course, s: &[u8], at: usize, kept: &mut [u8], text: &mut [u8]) -> Course {
-    let session = course.session;
-    let tally = course.tally;
-    if byte_at(s, at) == b'b' {
-        return Course {
-            session,
-            tally: put_bound(session, tally, lent_at(s, past(s, at, 1)), kept, text),
-        };
-    }
-    Course {
-        session,
-        tally: tally::take_number(tally, session.attempts(), text),
+// The number of attempts.
+fn attempts(session: Session) -> Call {
+    Call {
+        number: session.attempts(),
+        used: 0,
+        sent: 0,
     }
 }
 
-fn take_call(course: Course, s: &[u8], at: usize, kept: &mut [u8], text: &mut [u8]) -> Course {
+// The call at a place, with what is lent to it.
+fn take_call(session: Session, s: &[u8], at: usize, out: &mut [u8]) -> Turn {
     let call = byte_at(s, at);
     if call == b's' {
-        return start(course, s, at, kept, text);
+        return start(session, out);
     }
     if call == b'd' {
-        return deliver(course, s, at, kept, text);
+        return deliver(session, text_at(s, past(s, at, 3)), out);
     }
     if call == b'e' {
-        return end(course, text);
+        return end(session);
     }
-    ask(course, s, at, kept, text)
+    if call == b'b' {
+        return Turn {
+            session,
+            call: bound_text(session, out),
+        };
+    }
+    Turn {
+        session,
+        call: attempts(session),
+    }
 }
 
-fn take_calls(first: Course, s: &[u8], at: usize, kept: &mut [u8], text: &mut [u8]) -> Course {
-    let mut course = first;
-    let mut next = past(s, at, 2);
-    for i in 0..input::places::number_at(s, at) {
-        course = take_call(course, s, next, kept, text);
-        next = cases::call_end(s, next, b'S');
+// The next call, with the output that it lends.
+fn next_call(before: Turn, s: &[u8], at: usize, kept: &mut [u8]) -> Turn {
+    let lent = cases::lent_at(s, past(s, at, 1));
+    take_call(before.session, s, at, tally::output(kept, lent))
+}
+
+fn take_calls(
+    first: Turn,
+    begun: Tally,
+    s: &[u8],
+    from: usize,
+    kept: &mut [u8],
+    text: &mut [u8],
+) -> Writer {
+    let mut turn = first;
+    let mut tally = begun;
+    let mut at = past(s, from, 2);
+    for i in 0..number_at(s, from) {
+        turn = next_call(turn, s, at, kept);
+        tally = tally::take(tally, turn.call, s, at, kept, text);
+        at = cases::call_end(s, at, b'S');
     }
-    course
+    let last = turn.session;
+    tally::finish(tally, state_of(last.outcome()), kept, text)
 }
 
 // How a session or a route stands.
@@ -156,14 +151,16 @@ pub fn state_of(outcome: Outcome) -> State {
     }
 }
 
+// The output that a delivery asks.
+fn room_of(version: u8) -> usize {
+    if version == 4 {
+        return 262;
+    }
+    778
+}
+
 pub fn run(s: &[u8], writer: Writer, kept: &mut [u8], text: &mut [u8]) -> Writer {
-    let opening = cases::opening_at(s, 1);
-    let prepared = prepare(s, opening);
-    let answer = prepared.answer;
-    let session = prepared.session;
-    let tally = tally::begin(writer, answer, room_of(opening.version), text);
-    let course = take_calls(Course { session, tally }, s, cases::calls_at(s), kept, text);
-    let last = course.session;
-    let told = course.tally;
-    tally::finish(told, state_of(last.outcome()), kept, text)
+    let first = begin(s);
+    let tally = tally::check(writer, first.call, room_of(byte_at(s, 1)), text);
+    take_calls(first, tally, s, cases::calls_at(s), kept, text)
 }

@@ -1,7 +1,10 @@
 // What is told of a case's calls, whatever they are calls of: CALLS goes out as they come, SENT and RESTS are kept to the line's end.
+use cases::lent_at;
 use input::places::byte_at;
 use input::places::part;
+use input::places::past;
 use input::places::store;
+use input::places::text_at;
 use protocol::Answer;
 use report::State;
 use report::Writer;
@@ -27,15 +30,23 @@ pub struct Tally {
     pub rests: usize,
 }
 
-// What a call was lent and answers, how much of its piece it used, and how many bytes it sent.
+// What came of a call: the number of its answer, or the one it is asked for; how much of its piece it used; and how many bytes it put
+// into the output.
 pub struct Call {
-    pub lent: usize,
-    pub answer: Answer,
+    pub number: u64,
     pub used: usize,
     pub sent: usize,
 }
 
-// The part of what is kept that is lent as output.
+pub fn call_of(answer: Answer, used: usize, sent: usize) -> Call {
+    Call {
+        number: error_numbers::answer_number(answer) as u64,
+        used,
+        sent,
+    }
+}
+
+// What is lent as output.
 pub fn output(kept: &mut [u8], lent: usize) -> &mut [u8] {
     let start = 0;
     if lent > kept.len() {
@@ -62,16 +73,12 @@ fn keep_rest(kept: &mut [u8], rest: &[u8], to: usize) -> usize {
     end
 }
 
-fn number_of(answer: Answer) -> u64 {
-    error_numbers::answer_number(answer) as u64
-}
-
 fn put_count(writer: Writer, text: &mut [u8], n: usize) -> Writer {
     let next = put_byte(writer, text, b'/');
     put_number(next, text, n as u64)
 }
 
-// A number at the start of an entry, with a comma before it unless that is the first.
+// The number at the start of an entry, with a comma before it unless that is the first.
 fn put_entry(tally: Tally, text: &mut [u8], n: u64) -> Writer {
     let writer = tally.writer;
     if tally.called {
@@ -81,10 +88,10 @@ fn put_entry(tally: Tally, text: &mut [u8], n: u64) -> Writer {
     put_number(writer, text, n)
 }
 
-// The tally behind an entry.
-fn told(tally: Tally, writer: Writer) -> Tally {
+// A call that has a number alone.
+fn take_number(tally: Tally, call: Call, text: &mut [u8]) -> Tally {
     Tally {
-        writer,
+        writer: put_entry(tally, text, call.number),
         room: tally.room,
         called: true,
         sent: tally.sent,
@@ -92,27 +99,26 @@ fn told(tally: Tally, writer: Writer) -> Tally {
     }
 }
 
-// A call that has a number.
-pub fn take_number(tally: Tally, n: u64, text: &mut [u8]) -> Tally {
-    told(tally, put_entry(tally, text, n))
+fn put_text(start: Writer, text: &mut [u8], bytes: &[u8]) -> Writer {
+    let writer = put_byte(start, text, b'/');
+    put_field(writer, text, bytes)
 }
 
-// A call that has an answer.
-pub fn take_answer(tally: Tally, answer: Answer, text: &mut [u8]) -> Tally {
-    take_number(tally, number_of(answer), text)
-}
-
-// A call that has an answer and a text.
-pub fn take_text(tally: Tally, answer: Answer, bytes: &[u8], text: &mut [u8]) -> Tally {
-    let writer = put_entry(tally, text, number_of(answer));
-    let next = put_byte(writer, text, b'/');
-    told(tally, put_field(next, text, bytes))
+// A call that has a text.
+fn take_text(tally: Tally, call: Call, kept: &[u8], text: &mut [u8]) -> Tally {
+    let writer = put_entry(tally, text, call.number);
+    Tally {
+        writer: put_text(writer, text, part(kept, 0, call.sent)),
+        room: tally.room,
+        called: true,
+        sent: tally.sent,
+        rests: tally.rests,
+    }
 }
 
 // A call that sends.
-pub fn take_sent(tally: Tally, call: Call, kept: &mut [u8], text: &mut [u8]) -> Tally {
-    let answer = call.answer;
-    let writer = put_entry(tally, text, number_of(answer));
+fn take_sent(tally: Tally, call: Call, kept: &mut [u8], text: &mut [u8]) -> Tally {
+    let writer = put_entry(tally, text, call.number);
     Tally {
         writer: put_count(writer, text, call.sent),
         room: tally.room,
@@ -123,24 +129,25 @@ pub fn take_sent(tally: Tally, call: Call, kept: &mut [u8], text: &mut [u8]) -> 
 }
 
 fn put_delivery(tally: Tally, call: Call, text: &mut [u8]) -> Writer {
-    let answer = call.answer;
-    let writer = put_entry(tally, text, number_of(answer));
+    let writer = put_entry(tally, text, call.number);
     let next = put_count(writer, text, call.used);
     put_count(next, text, call.sent)
 }
 
-// A delivery. If it lends less than is asked it has no rest.
-fn rest_end(tally: Tally, call: Call, piece: &[u8], kept: &mut [u8]) -> usize {
-    if call.lent < tally.room {
+// The rest of the delivery at a place, if it lends what is asked.
+fn take_rest(tally: Tally, used: usize, s: &[u8], at: usize, kept: &mut [u8]) -> usize {
+    if lent_at(s, past(s, at, 1)) < tally.room {
         return tally.rests;
     }
-    keep_rest(kept, wire::rest(piece, call.used), tally.rests)
+    let piece = text_at(s, past(s, at, 3));
+    keep_rest(kept, wire::rest(piece, used), tally.rests)
 }
 
-pub fn take_delivery(
+fn take_delivery(
     tally: Tally,
     call: Call,
-    piece: &[u8],
+    s: &[u8],
+    at: usize,
     kept: &mut [u8],
     text: &mut [u8],
 ) -> Tally {
@@ -149,46 +156,60 @@ pub fn take_delivery(
         room: tally.room,
         called: true,
         sent: keep_sent(kept, call.sent, tally.sent),
-        rests: rest_end(tally, call, piece, kept),
+        rests: take_rest(tally, call.used, s, at, kept),
     }
 }
 
-// CHECK, and a space.
-fn begin_at(writer: Writer, text: &mut [u8], room: usize) -> Tally {
+// The call at a place, and what came of it.
+pub fn take(
+    tally: Tally,
+    call: Call,
+    s: &[u8],
+    at: usize,
+    kept: &mut [u8],
+    text: &mut [u8],
+) -> Tally {
+    let byte = byte_at(s, at);
+    if byte == b'd' {
+        return take_delivery(tally, call, s, at, kept, text);
+    }
+    if byte == b's' || byte == b'a' {
+        return take_sent(tally, call, kept, text);
+    }
+    if byte == b'b' {
+        return take_text(tally, call, kept, text);
+    }
+    take_number(tally, call, text)
+}
+
+// CHECK is told: a space.
+fn begin(writer: Writer, room: usize, sent: usize, text: &mut [u8]) -> Tally {
     Tally {
         writer: put_byte(writer, text, b' '),
         room,
         called: false,
-        sent: SENT,
+        sent,
         rests: RESTS,
     }
 }
 
-pub fn begin(start: Writer, answer: Answer, room: usize, text: &mut [u8]) -> Tally {
-    let writer = put_number(start, text, number_of(answer));
-    begin_at(writer, text, room)
+// CHECK of a preparing or a set-up.
+pub fn check(start: Writer, call: Call, room: usize, text: &mut [u8]) -> Tally {
+    let writer = put_number(start, text, call.number);
+    begin(writer, room, SENT, text)
 }
 
-// CHECK of an opening that sends.
-pub fn begin_sent(
+// CHECK of an opening.
+pub fn check_sent(
     start: Writer,
-    answer: Answer,
-    sent: usize,
+    call: Call,
     room: usize,
     kept: &mut [u8],
     text: &mut [u8],
 ) -> Tally {
-    let check = put_number(start, text, number_of(answer));
-    let writer = put_count(check, text, sent);
-    let tally = begin_at(writer, text, room);
-    let next = tally.writer;
-    Tally {
-        writer: next,
-        room,
-        called: false,
-        sent: keep_sent(kept, sent, SENT),
-        rests: RESTS,
-    }
+    let number = put_number(start, text, call.number);
+    let writer = put_count(number, text, call.sent);
+    begin(writer, room, keep_sent(kept, call.sent, SENT), text)
 }
 
 // CALLS is at its end: `-` if it has no entry.
@@ -200,7 +221,7 @@ fn end_calls(tally: Tally, text: &mut [u8]) -> Writer {
     put_byte(writer, text, b'-')
 }
 
-// A field of kept bytes between spaces, or behind one.
+// A field of kept bytes with a space before it.
 fn put_kept(start: Writer, text: &mut [u8], kept: &[u8], from: usize, end: usize) -> Writer {
     let writer = put_byte(start, text, b' ');
     put_field(writer, text, part(kept, from, end))
