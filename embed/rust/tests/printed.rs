@@ -1,4 +1,4 @@
-//! The README's program in Rust is built and run as it is printed; it wants port 1080 of 127.0.0.1.
+//! The program in docs/RUST.md is built and run as it is printed; it wants port 1080 of 127.0.0.1.
 use std::io::{self, Read, Write};
 use std::net::{Shutdown, TcpListener};
 use std::path::{Path, PathBuf};
@@ -8,15 +8,14 @@ use std::{env, fs, thread};
 /// The program, built without a warning over this crate.
 fn built() -> PathBuf {
     let here = Path::new(env!("CARGO_MANIFEST_DIR"));
-    let readme = fs::read_to_string(here.join("../../README.md")).expect("there is a README");
-    let (_, section) = readme.split_once("# Use it from Rust\n").expect("the README has a section for Rust");
-    let (_, block) = section.split_once("```rust\n").expect("the section has a Rust block");
+    let page = fs::read_to_string(here.join("../../docs/RUST.md")).expect("there is a docs/RUST.md");
+    let (_, block) = page.split_once("```rust\n").expect("the page has a Rust block");
     let (program, _) = block.split_once("```").expect("the block has an end");
-    let folder = Path::new(env!("CARGO_TARGET_TMPDIR")).join("readme");
+    let folder = Path::new(env!("CARGO_TARGET_TMPDIR")).join("printed");
     fs::create_dir_all(folder.join("src")).unwrap();
     fs::write(folder.join("src/main.rs"), program).unwrap();
     let manifest = format!(
-        "[package]\nname = \"readme\"\nedition = \"2024\"\n[dependencies]\ngitaymba.path = {:?}\n[workspace]\n",
+        "[package]\nname = \"printed\"\nedition = \"2024\"\n[dependencies]\ngitaymba.path = {:?}\n[workspace]\n",
         here.canonicalize().unwrap()
     );
     fs::write(folder.join("Cargo.toml"), manifest).unwrap();
@@ -27,7 +26,7 @@ fn built() -> PathBuf {
         .status()
         .unwrap();
     assert!(status.success());
-    folder.join("target/debug/readme")
+    folder.join("target/debug/printed")
 }
 
 /// A proxy for one client: its last reply and the stream go in one write. Answers what the client sent through it.
@@ -44,10 +43,10 @@ fn served(listener: TcpListener, stream: &[u8]) -> io::Result<Vec<u8>> {
 }
 
 #[test]
-fn the_program_of_the_readme_runs() {
+fn the_printed_program_runs() {
     const STREAM: &[u8] = b"HTTP/1.0 204 No Content\r\n\r\n";
     let program = built();
-    let listener = TcpListener::bind("127.0.0.1:1080").expect("the README's proxy is at 127.0.0.1:1080");
+    let listener = TcpListener::bind("127.0.0.1:1080").expect("the program's proxy is at 127.0.0.1:1080");
     let proxy = thread::spawn(move || served(listener, STREAM));
     let output = Command::new(program).output().unwrap();
     assert!(output.status.success());
