@@ -7,14 +7,14 @@ use lib.ListN.{length}
 use borrow.Author.Tests.{le-leb}
 use Rattle.protocol.specs.Bound.{Endpoint}
 use Rattle.protocol.specs.declared.Version.the-variants.{V4, V5}
-use Rattle.serving.specs.declared.Stage.{Stage}
-use Rattle.serving.specs.declared.Stage.the-variants.{Awaiting, Asked, Open, Failed}
-use Rattle.serving_stages.specs.declared.Outcome.the-variants as outcome
-use Rattle.serving_stages.specs.Told.{outcomeAt}
-use Rattle.serving_stages.specs.Answers.{answerAt}
-use Rattle.proxy_calls.specs.declared.Server.{Server}
-use Rattle.proxy_calls.specs.declared.Answered.{Answered}
-use Rattle.proxy_calls.specs.Calls.{answer, answered}
+use Rattle.proxy_spec.specs.declared.Stage.{Stage}
+use Rattle.proxy_spec.specs.declared.Stage.the-variants.{Awaiting, Asked, Open, Failed}
+use Rattle.proxy_replies.specs.declared.stages.Outcome.the-variants as outcome
+use Rattle.proxy_replies.specs.stages.Told.{outcomeAt}
+use Rattle.proxy_replies.specs.stages.Answers.{answerAt}
+use Rattle.proxy_session.specs.declared.Server.{Server}
+use Rattle.proxy_session.specs.declared.Answered.{Answered}
+use Rattle.proxy_session.specs.Calls.{answer, answered}
 use Rattle.bench.specs.Opens.{successAt, Opens}
 
 opens-at : (t : Stage) (x : Endpoint) (out : List ℕ) → 262 ≤ length out → outcomeAt t ≡ outcome.Asked → outcomeAt (answerAt t (successAt t) x out .said .stage) ≡ outcome.Open

@@ -1,12 +1,12 @@
 -- What the program answers a destination with, and what comes of it.
 use Prim.Native.Nat.{ℕ, _≤_}
 use mathlib.Core.Path.{_≡_}
-use Rattle.serving.specs.declared.Stage.{Stage}
-use Rattle.serving.specs.declared.Stage.the-variants.{Awaiting, Asked, Open, Failed}
-use Rattle.serving.specs.End.{success}
-use Rattle.serving_stages.specs.declared.Outcome.the-variants as outcome
-use Rattle.proxy_calls.specs.declared.Server.{Server}
-use Rattle.proxy_calls.specs.Server as calls
+use Rattle.proxy_spec.specs.declared.Stage.{Stage}
+use Rattle.proxy_spec.specs.declared.Stage.the-variants.{Awaiting, Asked, Open, Failed}
+use Rattle.proxy_spec.specs.End.{success}
+use Rattle.proxy_replies.specs.declared.stages.Outcome.the-variants as outcome
+use Rattle.proxy_session.specs.declared.Server.{Server}
+use Rattle.proxy_session.specs.Server as calls
 
 -- success in the version that asks
 abbrev pub successAt : Stage → ℕ

@@ -1,6 +1,5 @@
 // The proxy's end for a real client, on standard input and output: `bench FILE [USER PASSWORD]`. It serves one handshake and answers success;
 // the start of FILE goes out with its last reply, in one write. What was asked for and how it ended is said on standard error.
-use destinations::Target;
 use input::places::part;
 use libc::STDERR_FILENO;
 use libc::STDOUT_FILENO;
@@ -12,6 +11,8 @@ use proxy::Outcome;
 use proxy::Server;
 use proxy::SetUp;
 use proxy::Stage;
+use proxy_decisions::destination::Target;
+use proxy_replies::stages::success;
 use report::State;
 use report::Writer;
 use report::put_byte;
@@ -19,7 +20,6 @@ use report::put_bytes;
 use report::put_field;
 use report::put_number;
 use report::put_state;
-use serving_stages::success;
 ghost use mathlib.Core.Path.{_≡_};
 ghost use Prim.Native.Nat.{_-_, _≤_};
 ghost use lib.ListN.{length, take};

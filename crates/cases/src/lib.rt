@@ -6,13 +6,13 @@ use input::places::past;
 use input::places::store;
 use input::places::text_end;
 use lookup::Lookup;
-use planning::Part;
-use planning::Proxy;
 use protocol::Family;
 use protocol::Port;
 use protocol::Record;
 use protocol::SocksConfig;
 use protocol::Version;
+use route_session::plan::Part;
+use route_session::plan::Proxy;
 
 // The most output or buffer that can be lent.
 pub const LENT: usize = 9216;

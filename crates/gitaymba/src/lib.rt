@@ -2,11 +2,11 @@
 // 1,024 bytes, which is as much as any asks, and the buffer of a text 261, which is as long as a text gets.
 ghost use mathlib.Core.Path.{_≡_};
 ghost use lib.ListN.{length};
-ghost use Rattle.serving.specs.End.{endpointOf};
-ghost use Rattle.session.specs.Session.{writeBound};
-ghost use Rattle.session.specs.Calls.{prepare5, prepare4, start, deliver, end};
-ghost use Rattle.proxy_calls.specs.Server.{destination};
-ghost use Rattle.proxy_calls.specs.Calls as served;
+ghost use Rattle.proxy_spec.specs.End.{endpointOf};
+ghost use Rattle.client_session.specs.Session.{writeBound};
+ghost use Rattle.client_session.specs.Calls.{prepare5, prepare4, start, deliver, end};
+ghost use Rattle.proxy_session.specs.Server.{destination};
+ghost use Rattle.proxy_session.specs.Calls as served;
 ghost use Rattle.raw_numbers.specs.Numbers.{truth};
 ghost use Rattle.raw_session.specs.Raw.{sessionOf};
 ghost use Rattle.raw_server.specs.Raw.{serverOf, standingOf};

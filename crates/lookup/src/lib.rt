@@ -3,9 +3,9 @@ ghost use mathlib.Core.Path.{_≡_};
 ghost use lib.ListN.{take};
 ghost use mathlib.Core.Bool.{not, _&&_};
 ghost use Rattle.lookup.specs.Chosen.{serves, noneFound, stepOf, chosenOf};
+use buffers::write::least;
 use protocol::Family;
 use protocol::Record;
-use wire::least;
 
 // The record taken, if there is one.
 pub struct Lookup {

@@ -9,16 +9,16 @@ use borrow.Author.Tests.{le-leb, eq-eqb, ne-eqb}
 use Rattle.protocol.specs.declared.SocksError.the-variants.{Command}
 use Rattle.protocol.specs.declared.Version.{Version}
 use Rattle.protocol.specs.Bound.{Endpoint, unbound}
-use Rattle.serving.specs.declared.Stage.{Stage}
-use Rattle.serving.specs.declared.Stage.the-variants.{Awaiting, Asked, Open, Failed}
-use Rattle.serving.specs.End.{replyTo, statusTo, success, stageAfter}
-use Rattle.destinations.specs.Last.{targetAs}
-use Rattle.serving_stages.specs.declared.Outcome.the-variants as outcome
-use Rattle.serving_stages.specs.Told.{outcomeAt, hasDestination}
-use Rattle.serving_stages.specs.Answers.{sends, answerAt}
-use Rattle.proxy_calls.specs.declared.Server.{Server}
-use Rattle.proxy_calls.specs.Server.{askedFor, atStage, outcome as told, destination}
-use Rattle.proxy_calls.specs.Calls.{Call, answerBy, answer}
+use Rattle.proxy_spec.specs.declared.Stage.{Stage}
+use Rattle.proxy_spec.specs.declared.Stage.the-variants.{Awaiting, Asked, Open, Failed}
+use Rattle.proxy_spec.specs.End.{replyTo, statusTo, success, stageAfter}
+use Rattle.proxy_decisions.specs.destination.Last.{targetAs}
+use Rattle.proxy_replies.specs.declared.stages.Outcome.the-variants as outcome
+use Rattle.proxy_replies.specs.stages.Told.{outcomeAt, hasDestination}
+use Rattle.proxy_replies.specs.stages.Answers.{sends, answerAt}
+use Rattle.proxy_session.specs.declared.Server.{Server}
+use Rattle.proxy_session.specs.Server.{askedFor, atStage, outcome as told, destination}
+use Rattle.proxy_session.specs.Calls.{Call, answerBy, answer}
 use Rattle.proxy.specs.Turns.{failure, Tells, nowhere, Answering, AllAnswering}
 
 module _ (s : Server) (v : Version) (q : s .stage ≡ Asked v) (status : ℕ) (x : Endpoint) (out : List ℕ) (h : 262 ≤ length out) where

@@ -15,14 +15,14 @@ use Rattle.protocol.specs.declared.Version.{Version}
 use Rattle.protocol.specs.Numbers.{number, answerNumber}
 use Rattle.protocol.specs.Bound.{Endpoint}
 use Rattle.protocol.proofs.Limits.{number-accepted}
-use Rattle.serving.specs.End as plain
-use Rattle.serving.specs.End.{Setup, asks, machine, used, replyTo, statusTo, success}
-use Rattle.destinations.specs.declared.Target.{Target}
-use Rattle.serving_stages.specs.declared.Outcome.{Outcome}
-use Rattle.serving_stages.specs.declared.Outcome.the-variants.{Waiting, Asked, Open, Failed}
-use Rattle.proxy_calls.specs.declared.Server.{Server}
-use Rattle.proxy_calls.specs.Server.{outcome, destination}
-use Rattle.proxy_calls.specs.Calls.{Call, refusal, setUp, deliver, answer, end}
+use Rattle.proxy_spec.specs.End as plain
+use Rattle.proxy_spec.specs.End.{Setup, asks, machine, used, replyTo, statusTo, success}
+use Rattle.proxy_decisions.specs.declared.destination.Target.{Target}
+use Rattle.proxy_replies.specs.declared.stages.Outcome.{Outcome}
+use Rattle.proxy_replies.specs.declared.stages.Outcome.the-variants.{Waiting, Asked, Open, Failed}
+use Rattle.proxy_session.specs.declared.Server.{Server}
+use Rattle.proxy_session.specs.Server.{outcome, destination}
+use Rattle.proxy_session.specs.Calls.{Call, refusal, setUp, deliver, answer, end}
 use Rattle.proxy.specs.Served.{outcomeBy, targetBy, handedOut, tunnelOf, joinedOf, Alike, Served}
 use Rattle.proxy.specs.Turns.{failure, Given, nowhere, SettingUp, Untouched, InTurn, Answering, AllAnswering}
 use Rattle.talk.specs.Tunnel.{Delivery, Behind, Tunnel}

@@ -18,24 +18,24 @@ use Rattle.protocol.specs.Bound.{Endpoint, endpoint, kindIn, bytesIn, unbound}
 use Rattle.protocol.specs.Opening.{refuse}
 use Rattle.protocol.proofs.Bytes.{joined-bytes}
 use Rattle.protocol.proofs.Openings.{clash, all-passed, checked, less-just}
-use Rattle.serving.specs.declared.Field.the-variants.{First}
-use Rattle.serving.specs.declared.Stage.{Stage}
-use Rattle.serving.specs.declared.Stage.the-variants as stage
-use Rattle.serving.specs.End as plain
-use Rattle.serving.specs.End.{Setup, End, asks, asked, machine, usedBy, used}
-use Rattle.serving.specs.Side.{EndSession, reads, talkAt, server, standingOf}
-use Rattle.serving.proofs.Side.{server-lawful}
-use Rattle.serving.proofs.Feed.{sent-feed, standing-feed, used-feed}
-use Rattle.serving.proofs.Fits.{feed-target}
-use Rattle.judging.specs.Due.{sessionAt}
-use Rattle.destinations.specs.Last.{targetAs}
-use Rattle.serving_stages.specs.declared.Outcome.the-variants as told
-use Rattle.serving_stages.specs.Told.{outcomeAt, hasDestination}
-use Rattle.serving_pieces.specs.Pieces.{stageOf}
-use Rattle.proxy_calls.specs.declared.Server.{Server}
-use Rattle.proxy_calls.specs.declared.SetUp.{SetUp}
-use Rattle.proxy_calls.specs.Server.{credentialOf, textOf, setupOf, heldBytes, askedFor, view, packed, outcome, destination, fresh}
-use Rattle.proxy_calls.specs.Calls.{refusal, tooLong, setUp, takes, deliver}
+use Rattle.proxy_spec.specs.declared.Field.the-variants.{First}
+use Rattle.proxy_spec.specs.declared.Stage.{Stage}
+use Rattle.proxy_spec.specs.declared.Stage.the-variants as stage
+use Rattle.proxy_spec.specs.End as plain
+use Rattle.proxy_spec.specs.End.{Setup, End, asks, asked, machine, usedBy, used}
+use Rattle.proxy_spec.specs.Side.{EndSession, reads, talkAt, server, standingOf}
+use Rattle.proxy_spec.proofs.Side.{server-lawful}
+use Rattle.proxy_spec.proofs.Feed.{sent-feed, standing-feed, used-feed}
+use Rattle.proxy_spec.proofs.Fits.{feed-target}
+use Rattle.proxy_decisions.specs.decision.Due.{sessionAt}
+use Rattle.proxy_decisions.specs.destination.Last.{targetAs}
+use Rattle.proxy_replies.specs.declared.stages.Outcome.the-variants as told
+use Rattle.proxy_replies.specs.stages.Told.{outcomeAt, hasDestination}
+use Rattle.proxy_delivery.specs.piece.Pieces.{stageOf}
+use Rattle.proxy_session.specs.declared.Server.{Server}
+use Rattle.proxy_session.specs.declared.SetUp.{SetUp}
+use Rattle.proxy_session.specs.Server.{credentialOf, textOf, setupOf, heldBytes, askedFor, view, packed, outcome, destination, fresh}
+use Rattle.proxy_session.specs.Calls.{refusal, tooLong, setUp, takes, deliver}
 use Rattle.proxy.specs.Served.{setupFor, outcomeBy, targetBy, handedOut, receiver, tunnelOf, joinedOf, Served, AllServed}
 use Rattle.proxy.specs.Turns.{Tells, nowhere, SettingUp}
 use Rattle.talk.specs.Talk as talk

@@ -19,18 +19,18 @@ use Rattle.protocol.specs.Bound.{Endpoint, endpoint}
 use Rattle.protocol.specs.Opening.{_↣_, Answers, refuse}
 use Rattle.protocol.proofs.Judged.{refuses, accepts, answered, stays}
 use Rattle.protocol.proofs.Openings.{clash, same-error, not-long, all-passed, checked}
-use Rattle.serving.specs.declared.Stage.{Stage}
-use Rattle.serving.specs.declared.Stage.the-variants.{Awaiting, Asked, Open, Failed}
-use Rattle.serving.specs.End.{replyTo, stageAfter}
-use Rattle.serving.proofs.Fits.{feed-sent}
-use Rattle.judging.specs.Due.{sessionAt}
-use Rattle.serving_stages.specs.declared.Outcome.{Outcome}
-use Rattle.serving_stages.specs.declared.Outcome.the-variants as outcome
-use Rattle.serving_stages.specs.Told.{outcomeAt}
-use Rattle.serving_stages.specs.Answers.{refused, sends, answerAt}
-use Rattle.proxy_calls.specs.declared.Server.{Server}
-use Rattle.proxy_calls.specs.Server.{setupOf, sideOf, askedFor, heldBytes, view, packed, atStage, outcome as told}
-use Rattle.proxy_calls.specs.Calls.{Call, refusal, takes, deliver, answerBy, answer, end}
+use Rattle.proxy_spec.specs.declared.Stage.{Stage}
+use Rattle.proxy_spec.specs.declared.Stage.the-variants.{Awaiting, Asked, Open, Failed}
+use Rattle.proxy_spec.specs.End.{replyTo, stageAfter}
+use Rattle.proxy_spec.proofs.Fits.{feed-sent}
+use Rattle.proxy_decisions.specs.decision.Due.{sessionAt}
+use Rattle.proxy_replies.specs.declared.stages.Outcome.{Outcome}
+use Rattle.proxy_replies.specs.declared.stages.Outcome.the-variants as outcome
+use Rattle.proxy_replies.specs.stages.Told.{outcomeAt}
+use Rattle.proxy_replies.specs.stages.Answers.{refused, sends, answerAt}
+use Rattle.proxy_session.specs.declared.Server.{Server}
+use Rattle.proxy_session.specs.Server.{setupOf, sideOf, askedFor, heldBytes, view, packed, atStage, outcome as told}
+use Rattle.proxy_session.specs.Calls.{Call, refusal, takes, deliver, answerBy, answer, end}
 use Rattle.proxy.specs.Turns.{Given, Tells, nowhere, Untouched, InTurn}
 use Rattle.talk.specs.Talk.{failed, ended, onward, isOver}
 use Rattle.talk.specs.Tunnel.{Behind}

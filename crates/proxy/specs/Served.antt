@@ -8,15 +8,15 @@ use Rattle.protocol.specs.declared.Answer.{Answer}
 use Rattle.protocol.specs.declared.Answer.the-variants.{Accepted}
 use Rattle.protocol.specs.Bytes.{padded, BytePieces}
 use Rattle.protocol.specs.Bound.{Endpoint, unbound, kindIn, bytesIn}
-use Rattle.serving.specs.declared.Stage.the-variants as stage
-use Rattle.serving.specs.End as plain
-use Rattle.serving.specs.End.{Setup, Standing, waits, asks, fails, machine, used}
-use Rattle.destinations.specs.declared.Target.{Target}
-use Rattle.serving_stages.specs.declared.Outcome.{Outcome}
-use Rattle.serving_stages.specs.declared.Outcome.the-variants.{Waiting, Asked, Failed}
-use Rattle.proxy_calls.specs.declared.Server.{Server}
-use Rattle.proxy_calls.specs.Server.{outcome, destination}
-use Rattle.proxy_calls.specs.Calls.{setUp, deliver}
+use Rattle.proxy_spec.specs.declared.Stage.the-variants as stage
+use Rattle.proxy_spec.specs.End as plain
+use Rattle.proxy_spec.specs.End.{Setup, Standing, waits, asks, fails, machine, used}
+use Rattle.proxy_decisions.specs.declared.destination.Target.{Target}
+use Rattle.proxy_replies.specs.declared.stages.Outcome.{Outcome}
+use Rattle.proxy_replies.specs.declared.stages.Outcome.the-variants.{Waiting, Asked, Failed}
+use Rattle.proxy_session.specs.declared.Server.{Server}
+use Rattle.proxy_session.specs.Server.{outcome, destination}
+use Rattle.proxy_session.specs.Calls.{setUp, deliver}
 use Rattle.talk.specs.Tunnel.{Receiver, Delivery, joined, Tunnel, tunnel}
 
 -- ---- the plain machine's state, as the calls tell it

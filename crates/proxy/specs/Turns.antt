@@ -13,14 +13,14 @@ use Rattle.protocol.specs.Numbers.{number, answerNumber}
 use Rattle.protocol.specs.AddressReading.{Destination, ipv4, ipv6, domain}
 use Rattle.protocol.specs.Bound.{Endpoint, unbound}
 use Rattle.protocol.specs.Opening.{_↣_, Answers}
-use Rattle.serving.specs.declared.Stage.the-variants as stage
-use Rattle.serving.specs.End.{replyTo, statusTo, success}
-use Rattle.destinations.specs.declared.Target.{Target}
-use Rattle.serving_stages.specs.declared.Outcome.{Outcome}
-use Rattle.serving_stages.specs.declared.Outcome.the-variants.{Waiting, Asked, Open, Failed}
-use Rattle.proxy_calls.specs.declared.Server.{Server}
-use Rattle.proxy_calls.specs.Server.{credentialOf, outcome, destination, fresh}
-use Rattle.proxy_calls.specs.Calls.{Call, refusal, setUp, deliver, answer, end}
+use Rattle.proxy_spec.specs.declared.Stage.the-variants as stage
+use Rattle.proxy_spec.specs.End.{replyTo, statusTo, success}
+use Rattle.proxy_decisions.specs.declared.destination.Target.{Target}
+use Rattle.proxy_replies.specs.declared.stages.Outcome.{Outcome}
+use Rattle.proxy_replies.specs.declared.stages.Outcome.the-variants.{Waiting, Asked, Open, Failed}
+use Rattle.proxy_session.specs.declared.Server.{Server}
+use Rattle.proxy_session.specs.Server.{credentialOf, outcome, destination, fresh}
+use Rattle.proxy_session.specs.Calls.{Call, refusal, setUp, deliver, answer, end}
 use Rattle.proxy.specs.Served.{handedOut}
 use Rattle.talk.specs.Tunnel.{Behind}
 

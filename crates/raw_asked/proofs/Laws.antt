@@ -1,9 +1,9 @@
 -- What is told of a proxy's end, in numbers.
 use Prim.Native.Nat.{ℕ}
 use mathlib.Core.Path.{_≡_, ap, _∙_}
-use Rattle.destinations.specs.declared.Target.{Target}
-use Rattle.proxy_calls.specs.declared.Server.{Server}
-use Rattle.proxy_calls.specs.Server.{destination}
+use Rattle.proxy_decisions.specs.declared.destination.Target.{Target}
+use Rattle.proxy_session.specs.declared.Server.{Server}
+use Rattle.proxy_session.specs.Server.{destination}
 use Rattle.raw_numbers.specs.Numbers.{kindNumber}
 use Rattle.raw_session.specs.declared.RawOutcome.{RawOutcome}
 use Rattle.raw_server.specs.declared.RawServer.{RawServer}

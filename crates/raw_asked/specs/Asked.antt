@@ -1,5 +1,5 @@
 -- The destination that a proxy's end hands out, in numbers.
-use Rattle.destinations.specs.declared.Target.{Target}
+use Rattle.proxy_decisions.specs.declared.destination.Target.{Target}
 use Rattle.raw_numbers.specs.Numbers.{kindNumber}
 use Rattle.raw_asked.specs.declared.RawTarget.{RawTarget}
 

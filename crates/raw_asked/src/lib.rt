@@ -1,6 +1,6 @@
 // How a proxy's end of numbers and arrays stands, and the destination that it hands out.
 ghost use mathlib.Core.Path.{_≡_};
-ghost use Rattle.proxy_calls.specs.Server.{destination};
+ghost use Rattle.proxy_session.specs.Server.{destination};
 ghost use Rattle.raw_server.specs.Raw.{serverOf, standingOf};
 ghost use Rattle.raw_asked.specs.Asked.{targetOf};
 use raw_numbers::kind_number;

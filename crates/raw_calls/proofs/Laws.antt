@@ -7,12 +7,12 @@ use lib.Dec.{leb}
 use lib.ListN.{length}
 use Rattle.protocol.specs.declared.Answer.the-variants.{Accepted}
 use Rattle.protocol.specs.declared.SocksError.the-variants.{ShortOutput, UnexpectedEof, Settled, OutOfOrder}
-use Rattle.session.specs.declared.Session.{Session}
-use Rattle.session.specs.declared.Started.{Started}
-use Rattle.session.specs.declared.Delivered.{Delivered}
-use Rattle.session.specs.declared.Ended.{Ended}
-use Rattle.session.specs.Session.{view, packed, firstRoomAt, firstAt}
-use Rattle.session.specs.Calls.{Call, refusal, Starts, Delivers, endedBy, starts, start, deliver, end}
+use Rattle.client_session.specs.declared.Session.{Session}
+use Rattle.client_session.specs.declared.Started.{Started}
+use Rattle.client_session.specs.declared.Delivered.{Delivered}
+use Rattle.client_session.specs.declared.Ended.{Ended}
+use Rattle.client_session.specs.Session.{view, packed, firstRoomAt, firstAt}
+use Rattle.client_session.specs.Calls.{Call, refusal, Starts, Delivers, endedBy, starts, start, deliver, end}
 use Rattle.raw_session.specs.declared.RawSession.{RawSession}
 use Rattle.raw_session.specs.declared.RawStep.{RawStep}
 use Rattle.raw_session.specs.Raw.{sessionOf, stepOf}

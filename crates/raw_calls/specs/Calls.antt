@@ -2,7 +2,7 @@
 use Prim.Native.Nat.{ℕ}
 use mathlib.Core.Path.{_≡_}
 use mathlib.Core.List.{List}
-use Rattle.session.specs.Calls.{Call}
+use Rattle.client_session.specs.Calls.{Call}
 use Rattle.raw_session.specs.declared.RawStep.{RawStep}
 use Rattle.raw_session.specs.Raw.{stepOf}
 

@@ -1,6 +1,6 @@
 // The calls that move a session of numbers and arrays, each the library's on the session that they mean.
 ghost use mathlib.Core.Path.{_≡_};
-ghost use Rattle.session.specs.Calls.{start, deliver, end};
+ghost use Rattle.client_session.specs.Calls.{start, deliver, end};
 ghost use Rattle.raw_session.specs.Raw.{sessionOf};
 ghost use Rattle.raw_calls.specs.Calls.{stepBy, Says};
 use raw_session::RawSession;

@@ -9,9 +9,9 @@ use Rattle.protocol.specs.Opening.{firstRecord, firstFour}
 use Rattle.lookup.specs.declared.Lookup.{Lookup}
 use Rattle.lookup.specs.Chosen.{noneFound, chosenOf, recordsOf}
 use Rattle.lookup.proofs.Firsts.{first-chosen, four-chosen}
-use Rattle.session.specs.declared.Prepared.{Prepared}
-use Rattle.session.specs.Calls.{prepare5, prepare4}
-use Rattle.openings.proofs.Records.{by-first5, by-first4}
+use Rattle.client_session.specs.declared.Prepared.{Prepared}
+use Rattle.client_session.specs.Calls.{prepare5, prepare4}
+use Rattle.client_opening.proofs.common.Records.{by-first5, by-first4}
 use Rattle.raw_numbers.specs.Numbers.{truth, portOf}
 use Rattle.raw_records.specs.Records.{recordsIn}
 use Rattle.raw_session.specs.declared.RawStep.{RawStep}

@@ -3,7 +3,7 @@ use Prim.Native.Nat.{ℕ}
 use mathlib.Core.List.{List}
 use Rattle.protocol.specs.declared.SocksConfig.{SocksConfig}
 use Rattle.protocol.specs.Opening.{V5, V4}
-use Rattle.session.specs.declared.Prepared.{Prepared}
+use Rattle.client_session.specs.declared.Prepared.{Prepared}
 use Rattle.raw_numbers.specs.Numbers.{truth, portOf}
 use Rattle.raw_records.specs.Records.{recordsIn}
 use Rattle.raw_session.specs.declared.RawStep.{RawStep}

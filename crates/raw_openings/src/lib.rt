@@ -1,14 +1,14 @@
 // Preparing for programs in C and Rust: the options, the port and the records as numbers and bytes.
 ghost use mathlib.Core.Path.{_≡_};
-ghost use Rattle.session.specs.Calls.{prepare5, prepare4};
+ghost use Rattle.client_session.specs.Calls.{prepare5, prepare4};
 ghost use Rattle.raw_openings.specs.Given.{configOf, given5, given4, preparedStep};
+use client_session::Prepared;
 use protocol::SocksConfig;
 use raw_numbers::port_of;
 use raw_numbers::truth;
 use raw_records::found;
 use raw_session::RawStep;
 use raw_session::step;
-use session::Prepared;
 
 // The options of a session over v5: 0 is no, any other number yes.
 #[repr(C)]
@@ -48,7 +48,7 @@ pub fn prepare5(
     ensures { λ r. ⌜ r ≡ preparedStep (prepare5 (given5 config (now (host .entry)) port (now (user .entry)) (now (password .entry)) (now (records .entry)))) ⌝ }
 {
     let chosen = found(records, false);
-    prepared_step(openings_v5::prepare_chosen(
+    prepared_step(client_opening_v5::opening::prepare_chosen(
         config_of(config),
         host,
         port_of(port),
@@ -63,5 +63,10 @@ pub fn prepare4(local_dns: u8, host: &[u8], port: u32, records: &[u8]) -> RawSte
     ensures { λ r. ⌜ r ≡ preparedStep (prepare4 (given4 «local_dns» (now (host .entry)) port (now (records .entry)))) ⌝ }
 {
     let chosen = found(records, true);
-    prepared_step(openings_v4::prepare_chosen(truth(local_dns), host, port_of(port), chosen))
+    prepared_step(client_opening_v4::opening::prepare_chosen(
+        truth(local_dns),
+        host,
+        port_of(port),
+        chosen,
+    ))
 }

@@ -7,14 +7,14 @@ use Rattle.protocol.specs.declared.Answer.the-variants.{Accepted}
 use Rattle.protocol.specs.declared.Family.{Family}
 use Rattle.protocol.specs.declared.Record.{Record}
 use Rattle.protocol.specs.declared.SocksError.the-variants.{UnexpectedEof, Settled}
-use Rattle.serving.specs.End.{endpointOf}
-use Rattle.proxy_calls.specs.declared.Server.{Server}
-use Rattle.proxy_calls.specs.declared.SetUp.{SetUp}
-use Rattle.proxy_calls.specs.declared.Delivered.{Delivered}
-use Rattle.proxy_calls.specs.declared.Answered.{Answered}
-use Rattle.proxy_calls.specs.declared.Ended.{Ended}
-use Rattle.proxy_calls.specs.Server.{view, packed}
-use Rattle.proxy_calls.specs.Calls.{Call, refusal, Delivers, Answers, endedBy, setUp, deliver, answer, end}
+use Rattle.proxy_spec.specs.End.{endpointOf}
+use Rattle.proxy_session.specs.declared.Server.{Server}
+use Rattle.proxy_session.specs.declared.SetUp.{SetUp}
+use Rattle.proxy_session.specs.declared.Delivered.{Delivered}
+use Rattle.proxy_session.specs.declared.Answered.{Answered}
+use Rattle.proxy_session.specs.declared.Ended.{Ended}
+use Rattle.proxy_session.specs.Server.{view, packed}
+use Rattle.proxy_session.specs.Calls.{Call, refusal, Delivers, Answers, endedBy, setUp, deliver, answer, end}
 use Rattle.raw_numbers.specs.Numbers.{truth, familyOf}
 use Rattle.raw_server.specs.declared.RawServer.{RawServer}
 use Rattle.raw_server.specs.declared.RawServed.{RawServed}

@@ -3,8 +3,8 @@ use Prim.Native.Nat.{ℕ}
 use mathlib.Core.Path.{_≡_}
 use mathlib.Core.List.{List}
 use Rattle.protocol.specs.declared.Record.{Record}
-use Rattle.proxy_calls.specs.declared.SetUp.{SetUp}
-use Rattle.proxy_calls.specs.Calls.{Call}
+use Rattle.proxy_session.specs.declared.SetUp.{SetUp}
+use Rattle.proxy_session.specs.Calls.{Call}
 use Rattle.raw_numbers.specs.Numbers.{familyOf}
 use Rattle.raw_server.specs.declared.RawServed.{RawServed}
 use Rattle.raw_server.specs.Raw.{servedOf}

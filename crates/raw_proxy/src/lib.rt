@@ -1,7 +1,7 @@
 // The calls that move a proxy's end of numbers and arrays, each the library's on the end that they mean.
 ghost use mathlib.Core.Path.{_≡_};
-ghost use Rattle.serving.specs.End.{endpointOf};
-ghost use Rattle.proxy_calls.specs.Calls.{setUp, deliver, answer, end};
+ghost use Rattle.proxy_spec.specs.End.{endpointOf};
+ghost use Rattle.proxy_session.specs.Calls.{setUp, deliver, answer, end};
 ghost use Rattle.raw_numbers.specs.Numbers.{truth};
 ghost use Rattle.raw_server.specs.Raw.{serverOf};
 ghost use Rattle.raw_proxy.specs.Calls.{recordOf, setUpServed, servedBy, Serves};
@@ -33,7 +33,7 @@ fn record_of(raw: RawRecord) -> Record
 pub fn set_up(authenticates: u8, user: &[u8], password: &[u8]) -> RawServed
     ensures { λ r. ⌜ r ≡ setUpServed (setUp (truth authenticates) (now (user .entry)) (now (password .entry))) ⌝ }
 {
-    let made = proxy_calls::set_up(truth(authenticates), user, password);
+    let made = proxy_session::set_up(truth(authenticates), user, password);
     let answer = made.answer;
     let server = made.server;
     served(answer, server, 0, 0)

@@ -12,8 +12,8 @@ use Rattle.protocol.specs.declared.Family.{Family}
 use Rattle.protocol.specs.declared.Family.the-variants.{Four, Six}
 use Rattle.protocol.specs.declared.Record.{Record}
 use Rattle.protocol.specs.Bytes.{byte}
-use Rattle.wire.specs.Written.{Wrote}
-use Rattle.wire.proofs.Laws.{zeros-under}
+use Rattle.buffers.specs.write.Written.{Wrote}
+use Rattle.buffers.proofs.write.Laws.{zeros-under}
 use Rattle.lookup.specs.declared.Lookup.{Lookup}
 use Rattle.lookup.specs.Chosen.{noneFound, chosenOf}
 use Rattle.lookup.proofs.Firsts.{stays}

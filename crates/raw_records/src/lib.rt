@@ -2,11 +2,11 @@
 ghost use mathlib.Core.Path.{_≡_};
 ghost use Rattle.lookup.specs.Chosen.{noneFound, chosenOf};
 ghost use Rattle.raw_records.specs.Records.{recordsIn, servesNumber, Placed};
+use buffers::write::copy;
 use lookup::Lookup;
 use protocol::Family;
 use protocol::Record;
 use raw_numbers::family_of;
-use wire::copy;
 
 // Whether a record of this number serves, where only four may be wanted.
 fn serves(four: bool, n: u8) -> bool

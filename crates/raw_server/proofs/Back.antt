@@ -3,10 +3,10 @@ use mathlib.Core.Path.{_≡_, refl, sym, ap}
 use mathlib.Core.Bool.{true, false}
 use Rattle.protocol.specs.declared.SocksError.the-variants.{Settled}
 use Rattle.protocol.specs.declared.Version.the-variants.{V4, V5}
-use Rattle.serving.specs.declared.Field.the-variants.{First, Methods, User, Password, Head, Address, Request, UserId, Name}
-use Rattle.serving.specs.declared.Stage.{Stage}
-use Rattle.serving.specs.declared.Stage.the-variants.{Awaiting, Asked, Open, Failed}
-use Rattle.proxy_calls.specs.declared.Server.{Server}
+use Rattle.proxy_spec.specs.declared.Field.the-variants.{First, Methods, User, Password, Head, Address, Request, UserId, Name}
+use Rattle.proxy_spec.specs.declared.Stage.{Stage}
+use Rattle.proxy_spec.specs.declared.Stage.the-variants.{Awaiting, Asked, Open, Failed}
+use Rattle.proxy_session.specs.declared.Server.{Server}
 use Rattle.raw_errors.specs.Errors.{errorOf, errorAmong}
 use Rattle.raw_numbers.proofs.Back.{bit-back, kind-back}
 use Rattle.raw_errors.proofs.Back.{error-back}

@@ -7,10 +7,10 @@ use Rattle.protocol.specs.declared.Answer.{Answer}
 use Rattle.protocol.specs.declared.SocksError.{SocksError}
 use Rattle.protocol.specs.declared.Version.{Version}
 use Rattle.protocol.specs.Numbers.{number, status, answerNumber}
-use Rattle.serving.specs.declared.Stage.{Stage}
-use Rattle.serving.specs.declared.Stage.the-variants.{Asked, Failed}
-use Rattle.serving.specs.End.{success}
-use Rattle.proxy_calls.specs.declared.Server.{Server}
+use Rattle.proxy_spec.specs.declared.Stage.{Stage}
+use Rattle.proxy_spec.specs.declared.Stage.the-variants.{Asked, Failed}
+use Rattle.proxy_spec.specs.End.{success}
+use Rattle.proxy_session.specs.declared.Server.{Server}
 use Rattle.raw_numbers.specs.Numbers.{truth, bit, kindOf, kindNumber}
 use Rattle.raw_session.specs.declared.RawOutcome.{RawOutcome}
 use Rattle.raw_server.specs.declared.RawStage.{RawStage}

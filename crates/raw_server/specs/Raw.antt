@@ -7,13 +7,13 @@ use Rattle.protocol.specs.declared.Answer.{Answer}
 use Rattle.protocol.specs.declared.Version.{Version}
 use Rattle.protocol.specs.declared.Version.the-variants.{V4, V5}
 use Rattle.protocol.specs.Numbers.{number, status, answerNumber}
-use Rattle.serving.specs.declared.Field.{Field}
-use Rattle.serving.specs.declared.Field.the-variants.{First, Methods, User, Password, Head, Address, Request, UserId, Name}
-use Rattle.serving.specs.declared.Ports.{Ports}
-use Rattle.serving.specs.declared.Stage.{Stage}
-use Rattle.serving.specs.declared.Stage.the-variants.{Awaiting, Asked, Open, Failed}
-use Rattle.serving.specs.End.{success}
-use Rattle.proxy_calls.specs.declared.Server.{Server}
+use Rattle.proxy_spec.specs.declared.Field.{Field}
+use Rattle.proxy_spec.specs.declared.Field.the-variants.{First, Methods, User, Password, Head, Address, Request, UserId, Name}
+use Rattle.proxy_spec.specs.declared.Ports.{Ports}
+use Rattle.proxy_spec.specs.declared.Stage.{Stage}
+use Rattle.proxy_spec.specs.declared.Stage.the-variants.{Awaiting, Asked, Open, Failed}
+use Rattle.proxy_spec.specs.End.{success}
+use Rattle.proxy_session.specs.declared.Server.{Server}
 use Rattle.raw_numbers.specs.Numbers.{truth, bit, kindOf, kindNumber}
 use Rattle.raw_errors.specs.Errors.{errorOf}
 use Rattle.raw_session.specs.declared.RawOutcome.{RawOutcome}

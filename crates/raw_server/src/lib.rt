@@ -7,18 +7,18 @@ use error_numbers::status;
 use protocol::Answer;
 use protocol::Bound;
 use protocol::Version;
-use proxy_calls::Credential;
-use proxy_calls::Server;
+use proxy_replies::stages::success;
+use proxy_session::Credential;
+use proxy_session::Server;
+use proxy_spec::Field;
+use proxy_spec::Ports;
+use proxy_spec::Stage;
 use raw_errors::error_of;
 use raw_numbers::bit;
 use raw_numbers::kind_number;
 use raw_numbers::kind_of;
 use raw_numbers::truth;
 use raw_session::RawOutcome;
-use serving::Field;
-use serving::Ports;
-use serving::Stage;
-use serving_stages::success;
 
 // A stage, and what it keeps: of a failure its error, of an address its command and type, of a v4 request its fields.
 #[repr(C)]

@@ -3,9 +3,9 @@ use mathlib.Core.Path.{_≡_, refl, sym, ap}
 use Rattle.protocol.specs.declared.AuthMethod.the-variants.{NoAuth, UserPass, NoneAcceptable}
 use Rattle.protocol.specs.declared.Reply.the-variants.{NegotiationRes, AuthenticationRes, ProxyRes, Response}
 use Rattle.protocol.specs.declared.SocksError.the-variants.{Settled}
-use Rattle.sending.specs.declared.Stage.{Stage}
-use Rattle.sending.specs.declared.Stage.the-variants.{Awaiting, Open, Failed}
-use Rattle.session.specs.declared.Session.{Session}
+use Rattle.client_stages.specs.declared.due.Stage.{Stage}
+use Rattle.client_stages.specs.declared.due.Stage.the-variants.{Awaiting, Open, Failed}
+use Rattle.client_session.specs.declared.Session.{Session}
 use Rattle.raw_errors.specs.Errors.{errorOf, errorAmong}
 use Rattle.raw_numbers.proofs.Back.{bit-back, kind-back}
 use Rattle.raw_errors.proofs.Back.{error-back}

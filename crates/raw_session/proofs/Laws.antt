@@ -9,11 +9,11 @@ use Rattle.protocol.specs.declared.Outcome.the-variants as outcomes
 use Rattle.protocol.specs.declared.Reply.{Reply}
 use Rattle.protocol.specs.declared.SocksError.{SocksError}
 use Rattle.protocol.specs.Numbers.{number, status, answerNumber}
-use Rattle.sending.specs.declared.Requests.{Requests}
-use Rattle.sending.specs.declared.Stage.{Stage}
-use Rattle.sending.specs.declared.Stage.the-variants.{Awaiting, Failed}
-use Rattle.session.specs.declared.Session.{Session}
-use Rattle.session.specs.Session.{outcome}
+use Rattle.client_stages.specs.declared.due.Requests.{Requests}
+use Rattle.client_stages.specs.declared.due.Stage.{Stage}
+use Rattle.client_stages.specs.declared.due.Stage.the-variants.{Awaiting, Failed}
+use Rattle.client_session.specs.declared.Session.{Session}
+use Rattle.client_session.specs.Session.{outcome}
 use Rattle.raw_numbers.specs.Numbers.{truth, bit, kindOf, kindNumber}
 use Rattle.raw_session.specs.declared.RawSession.{RawSession}
 use Rattle.raw_session.specs.declared.RawOutcome.{RawOutcome}

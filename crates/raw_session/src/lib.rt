@@ -1,6 +1,10 @@
 // A session as numbers and arrays, by value, for programs in C and Rust.
 ghost use mathlib.Core.Path.{_≡_};
 ghost use Rattle.raw_session.specs.Raw.{stageOf, methodNumber, replyNumber, stageNumbers, sessionOf, rawOf, outcomeOf, stepOf};
+use client_session::Session;
+use client_stages::due::Lengths;
+use client_stages::due::Requests;
+use client_stages::due::Stage;
 use error_numbers::answer_number;
 use error_numbers::number;
 use error_numbers::status;
@@ -14,10 +18,6 @@ use raw_numbers::bit;
 use raw_numbers::kind_number;
 use raw_numbers::kind_of;
 use raw_numbers::truth;
-use sending::Lengths;
-use sending::Requests;
-use sending::Stage;
-use session::Session;
 
 // Every value of every field has a meaning (specs/Raw.antt); all zeros is a session that refuses everything.
 #[repr(C)]
@@ -222,7 +222,7 @@ pub fn step(answer: Answer, session: Session, used: usize, sent: usize) -> RawSt
     ensures { λ r. ⌜ r ≡ stepOf answer session used sent ⌝ }
 {
     let stage = session.stage;
-    let outcome = stages::outcome(stage);
+    let outcome = client_stages::outcome::outcome(stage);
     RawStep {
         session: raw_of(session),
         used: used,

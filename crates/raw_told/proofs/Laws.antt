@@ -11,13 +11,13 @@ use Rattle.protocol.specs.declared.Outcome.{Outcome}
 use Rattle.protocol.specs.declared.Outcome.the-variants as outcomes
 use Rattle.protocol.specs.declared.SocksError.the-variants.{NotOpen}
 use Rattle.protocol.specs.Numbers.{answerNumber}
-use Rattle.bound_text.specs.declared.Written.{Written}
-use Rattle.bound_text.specs.Text.{boundText}
-use Rattle.bound_text.specs.Written.{unwritten, writeText, Writes}
-use Rattle.stages.specs.Told.{isOpen}
-use Rattle.session.specs.declared.Session.{Session}
-use Rattle.session.specs.Session.{outcome, bound, writeBound}
-use Rattle.session.proofs.Named.{open-just}
+use Rattle.address_format.specs.declared.endpoint.Written.{Written}
+use Rattle.address_format.specs.endpoint.Text.{boundText}
+use Rattle.address_format.specs.endpoint.Written.{unwritten, writeText, Writes}
+use Rattle.client_stages.specs.outcome.Told.{isOpen}
+use Rattle.client_session.specs.declared.Session.{Session}
+use Rattle.client_session.specs.Session.{outcome, bound, writeBound}
+use Rattle.client_session.proofs.Named.{open-just}
 use Rattle.raw_numbers.specs.Numbers.{kindNumber}
 use Rattle.raw_session.specs.declared.RawSession.{RawSession}
 use Rattle.raw_session.specs.declared.RawOutcome.{RawOutcome}

@@ -4,8 +4,8 @@ use mathlib.Core.Path.{_≡_}
 use mathlib.Core.List.{List}
 use Rattle.protocol.specs.declared.Address.{Address}
 use Rattle.protocol.specs.Numbers.{answerNumber}
-use Rattle.bound_text.specs.Written.{TextCall}
-use Rattle.session.specs.Session.{outcome, bound}
+use Rattle.address_format.specs.endpoint.Written.{TextCall}
+use Rattle.client_session.specs.Session.{outcome, bound}
 use Rattle.raw_numbers.specs.Numbers.{kindNumber}
 use Rattle.raw_session.specs.declared.RawSession.{RawSession}
 use Rattle.raw_session.specs.declared.RawOutcome.{RawOutcome}

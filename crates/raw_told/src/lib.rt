@@ -3,7 +3,7 @@ ghost use mathlib.Core.Path.{_≡_};
 ghost use Prim.Native.Nat.{_≤_};
 ghost use lib.ListN.{length};
 ghost use Rattle.talk.specs.Tunnel.{rest};
-ghost use Rattle.session.specs.Session.{writeBound};
+ghost use Rattle.client_session.specs.Session.{writeBound};
 ghost use Rattle.raw_session.specs.Raw.{sessionOf};
 ghost use Rattle.raw_told.specs.Told.{rawOutcome, rawBound, rawAttempts, Tells};
 use error_numbers::answer_number;
@@ -72,5 +72,5 @@ pub fn attempts(session: RawSession) -> u64
 pub fn rest(piece: &[u8], count: usize) -> usize
     ensures { λ r. ⌜ r ≡ length (rest (now (piece .entry)) count) ⌝ }
 {
-    wire::rest(piece, count).len()
+    buffers::write::rest(piece, count).len()
 }

@@ -16,15 +16,15 @@ use Rattle.protocol.specs.Numbers.{number, status, answerNumber}
 use Rattle.protocol.specs.Opening.{Opening, Condition, None}
 use Rattle.protocol.specs.Machine.{machine, used}
 use Rattle.protocol.specs.Grammar.{Replied, JustOne}
-use Rattle.serving.specs.declared.Stage.the-variants.{Asked}
-use Rattle.serving.specs.End as plain
-use Rattle.serving.specs.End.{Setup, replyTo, statusTo, success}
-use Rattle.session.specs.declared.Prepared.{Prepared}
-use Rattle.session.specs.Session.{writeBound}
+use Rattle.proxy_spec.specs.declared.Stage.the-variants.{Asked}
+use Rattle.proxy_spec.specs.End as plain
+use Rattle.proxy_spec.specs.End.{Setup, replyTo, statusTo, success}
+use Rattle.client_session.specs.declared.Prepared.{Prepared}
+use Rattle.client_session.specs.Session.{writeBound}
 use Rattle.socks.specs.Attempts.{attemptsOf}
 use Rattle.socks.specs.Turns.{noAddress}
 use Rattle.socks.proofs.Claims.{holds}
-use Rattle.proxy_calls.specs.Calls.{setUp}
+use Rattle.proxy_session.specs.Calls.{setUp}
 use Rattle.proxy.specs.Served.{targetBy, handedOut}
 use Rattle.raw_numbers.specs.Numbers.{truth}
 use Rattle.proxy.specs.Turns.{Given, nowhere}

@@ -8,15 +8,15 @@ use Rattle.protocol.specs.declared.SocksError.{SocksError}
 use Rattle.protocol.specs.Bytes.{BytePieces}
 use Rattle.protocol.specs.Numbers.{number, status, answerNumber}
 use Rattle.protocol.proofs.Limits.{number-accepted}
-use Rattle.serving.specs.declared.Stage.{Stage}
-use Rattle.serving.specs.declared.Stage.the-variants.{Awaiting, Asked, Open, Failed}
-use Rattle.serving.specs.End as plain
-use Rattle.serving.specs.End.{Setup, Standing, waits, asks, fails, machine}
-use Rattle.serving_stages.specs.declared.Outcome.the-variants as outcome
-use Rattle.serving_stages.specs.Told.{outcomeAt}
-use Rattle.proxy_calls.specs.declared.Server.{Server}
-use Rattle.proxy_calls.specs.Server.{destination}
-use Rattle.proxy_calls.specs.Calls.{setUp, deliver, answer, end}
+use Rattle.proxy_spec.specs.declared.Stage.{Stage}
+use Rattle.proxy_spec.specs.declared.Stage.the-variants.{Awaiting, Asked, Open, Failed}
+use Rattle.proxy_spec.specs.End as plain
+use Rattle.proxy_spec.specs.End.{Setup, Standing, waits, asks, fails, machine}
+use Rattle.proxy_replies.specs.declared.stages.Outcome.the-variants as outcome
+use Rattle.proxy_replies.specs.stages.Told.{outcomeAt}
+use Rattle.proxy_session.specs.declared.Server.{Server}
+use Rattle.proxy_session.specs.Server.{destination}
+use Rattle.proxy_session.specs.Calls.{setUp, deliver, answer, end}
 use Rattle.proxy.specs.Served.{outcomeBy, targetBy, handedOut, receiver, joinedOf, Served}
 use Rattle.proxy.proofs.Tunnels.{all-served}
 use Rattle.raw_numbers.specs.Numbers.{truth}

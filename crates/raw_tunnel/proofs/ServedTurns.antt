@@ -10,15 +10,15 @@ use Rattle.protocol.specs.declared.Answer.the-variants.{Accepted, Refused}
 use Rattle.protocol.specs.declared.SocksError.{SocksError}
 use Rattle.protocol.specs.Numbers.{answerNumber}
 use Rattle.protocol.proofs.Limits.{number-accepted}
-use Rattle.serving.specs.declared.Stage.{Stage}
-use Rattle.serving.specs.declared.Stage.the-variants.{Awaiting, Asked, Open, Failed}
-use Rattle.serving_stages.specs.declared.Outcome.{Outcome}
-use Rattle.serving_stages.specs.declared.Outcome.the-variants as outcome
-use Rattle.serving_stages.specs.Told.{outcomeAt}
-use Rattle.destinations.specs.declared.Target.{Target}
-use Rattle.proxy_calls.specs.declared.Server.{Server}
-use Rattle.proxy_calls.specs.Server.{destination}
-use Rattle.proxy_calls.specs.Calls.{Call, refusal, setUp, deliver, answer, end}
+use Rattle.proxy_spec.specs.declared.Stage.{Stage}
+use Rattle.proxy_spec.specs.declared.Stage.the-variants.{Awaiting, Asked, Open, Failed}
+use Rattle.proxy_replies.specs.declared.stages.Outcome.{Outcome}
+use Rattle.proxy_replies.specs.declared.stages.Outcome.the-variants as outcome
+use Rattle.proxy_replies.specs.stages.Told.{outcomeAt}
+use Rattle.proxy_decisions.specs.declared.destination.Target.{Target}
+use Rattle.proxy_session.specs.declared.Server.{Server}
+use Rattle.proxy_session.specs.Server.{destination}
+use Rattle.proxy_session.specs.Calls.{Call, refusal, setUp, deliver, answer, end}
 use Rattle.proxy.specs.Turns.{Tells, nowhere}
 use Rattle.proxy.proofs.Turns.{in-turn, answer-used, end-counts}
 use Rattle.proxy.proofs.Tunnels.{setting-up}

@@ -16,9 +16,9 @@ use Rattle.protocol.specs.Numbers.{answerNumber}
 use Rattle.protocol.specs.Opening.{Opening, v5, v4, opening5, opening4, check5, check4, startRoom, deliveryRoom}
 use Rattle.protocol.specs.Grammar.{Replied}
 use Rattle.protocol.proofs.Limits.{number-is}
-use Rattle.session.specs.declared.Session.{Session}
-use Rattle.session.specs.Session.{outcome, bound}
-use Rattle.session.specs.Calls.{preparedFor, preparedBy, prepare5, prepare4, start, deliver}
+use Rattle.client_session.specs.declared.Session.{Session}
+use Rattle.client_session.specs.Session.{outcome, bound}
+use Rattle.client_session.specs.Calls.{preparedFor, preparedBy, prepare5, prepare4, start, deliver}
 use Rattle.socks.specs.Demand3.{receiver, Demand3, Tunnelled}
 use Rattle.socks.specs.Attempts.{Effort, Tried}
 use Rattle.socks.specs.Turns.{Asking}

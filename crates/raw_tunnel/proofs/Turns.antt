@@ -21,13 +21,13 @@ use Rattle.protocol.specs.Numbers.{answerNumber}
 use Rattle.protocol.specs.Opening.{Condition, _↣_, conditions5, conditions4, First, Answers, refuse}
 use Rattle.protocol.proofs.Openings.{all-passed, checked}
 use Rattle.protocol.proofs.Limits.{number-accepted}
-use Rattle.sending.specs.declared.Stage.{Stage}
-use Rattle.sending.specs.declared.Stage.the-variants.{Awaiting, Open, Failed}
-use Rattle.sending.specs.Stages.{SideSession}
-use Rattle.session.specs.declared.Session.{Session}
-use Rattle.session.specs.declared.Prepared.{Prepared}
-use Rattle.session.specs.Session.{view, outcome, bound, firstRoomAt, roomAt, writeBound}
-use Rattle.session.specs.Calls.{Call, refusal, prepare5, prepare4, start, deliver, end}
+use Rattle.client_stages.specs.declared.due.Stage.{Stage}
+use Rattle.client_stages.specs.declared.due.Stage.the-variants.{Awaiting, Open, Failed}
+use Rattle.client_stages.specs.due.Stages.{SideSession}
+use Rattle.client_session.specs.declared.Session.{Session}
+use Rattle.client_session.specs.declared.Prepared.{Prepared}
+use Rattle.client_session.specs.Session.{view, outcome, bound, firstRoomAt, roomAt, writeBound}
+use Rattle.client_session.specs.Calls.{Call, refusal, prepare5, prepare4, start, deliver, end}
 use Rattle.socks.specs.Turns.{Tells, Preparing, InTurn}
 use Rattle.socks.proofs.Refusals.{preparing5, preparing4}
 use Rattle.socks.proofs.Turns.{start-answers, start-untouched, start-accepts, deliver-answers, end-answers, end-untouched, end-accepts, any-in-turn}

@@ -10,7 +10,7 @@ use Rattle.protocol.specs.Bound as endpoints
 use Rattle.protocol.specs.Opening.{Opening, opening5, opening4}
 use Rattle.protocol.specs.Machine.{machine, used}
 use Rattle.protocol.specs.Grammar.{Replied, JustOne}
-use Rattle.session.specs.Calls.{Call, prepare5, prepare4, start, deliver}
+use Rattle.client_session.specs.Calls.{Call, prepare5, prepare4, start, deliver}
 use Rattle.socks.specs.Attempts.{attemptsOf}
 use Rattle.raw_session.specs.declared.RawSession.{RawSession}
 use Rattle.raw_session.specs.Raw.{sessionOf, outcomeOf}

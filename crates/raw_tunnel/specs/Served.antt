@@ -6,9 +6,9 @@ use lib.ListN.{drop}
 use Rattle.protocol.specs.Bytes.{BytePieces}
 use Rattle.protocol.specs.Numbers.{number, status}
 use Rattle.protocol.specs.Bound.{Endpoint}
-use Rattle.serving.specs.End.{Setup, Standing, waits, asks, fails, success, machine, used}
-use Rattle.proxy_calls.specs.Server.{destination}
-use Rattle.proxy_calls.specs.Calls.{Call, setUp, deliver, answer, end}
+use Rattle.proxy_spec.specs.End.{Setup, Standing, waits, asks, fails, success, machine, used}
+use Rattle.proxy_session.specs.Server.{destination}
+use Rattle.proxy_session.specs.Calls.{Call, setUp, deliver, answer, end}
 use Rattle.proxy.specs.Served.{setupFor, targetBy, handedOut}
 use Rattle.raw_numbers.specs.Numbers.{truth}
 use Rattle.raw_session.specs.declared.RawOutcome.{RawOutcome}

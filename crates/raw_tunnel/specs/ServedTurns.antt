@@ -7,9 +7,9 @@ use lib.ListN.{length, take}
 use Rattle.protocol.specs.declared.Version.{Version}
 use Rattle.protocol.specs.Bound.{Endpoint}
 use Rattle.protocol.specs.Opening.{_↣_, Answers}
-use Rattle.serving.specs.declared.Stage.the-variants.{Asked}
-use Rattle.serving.specs.End.{replyTo, statusTo, success}
-use Rattle.proxy_calls.specs.Calls.{Call, setUp, deliver, answer, end}
+use Rattle.proxy_spec.specs.declared.Stage.the-variants.{Asked}
+use Rattle.proxy_spec.specs.End.{replyTo, statusTo, success}
+use Rattle.proxy_session.specs.Calls.{Call, setUp, deliver, answer, end}
 use Rattle.proxy.specs.Turns.{Given, nowhere}
 use Rattle.raw_numbers.specs.Numbers.{truth}
 use Rattle.raw_session.specs.declared.RawOutcome.{RawOutcome}

@@ -6,10 +6,10 @@ use lib.ListN.{length, drop}
 use Rattle.protocol.specs.declared.Answer.the-variants.{Refused}
 use Rattle.protocol.specs.declared.SocksError.{SocksError}
 use Rattle.protocol.specs.Opening.{V5, V4, Condition, _↣_, conditions5, conditions4, Answers}
-use Rattle.bound_text.specs.Text.{boundText}
-use Rattle.session.specs.declared.Prepared.{Prepared}
-use Rattle.session.specs.Session.{bound, writeBound}
-use Rattle.session.specs.Calls.{Call, prepare5, prepare4, end}
+use Rattle.address_format.specs.endpoint.Text.{boundText}
+use Rattle.client_session.specs.declared.Prepared.{Prepared}
+use Rattle.client_session.specs.Session.{bound, writeBound}
+use Rattle.client_session.specs.Calls.{Call, prepare5, prepare4, end}
 use Rattle.socks.specs.Turns.{noAddress}
 use Rattle.raw_session.specs.declared.RawSession.{RawSession}
 use Rattle.raw_session.specs.Raw.{sessionOf, rawOf, zeros}

@@ -140,7 +140,7 @@ fn take_rest(tally: Tally, used: usize, s: &[u8], at: usize, kept: &mut [u8]) ->
         return tally.rests;
     }
     let piece = text_at(s, past(s, at, 3));
-    keep_rest(kept, wire::rest(piece, used), tally.rests)
+    keep_rest(kept, buffers::write::rest(piece, used), tally.rests)
 }
 
 fn take_delivery(

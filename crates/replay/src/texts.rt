@@ -12,7 +12,7 @@ fn put_family(writer: Writer, text: &mut [u8], digit: u8, bytes: [u8; 16], n: us
 }
 
 pub fn put_address(s: &[u8], writer: Writer, text: &mut [u8]) -> Writer {
-    let address = addresses::read_address(s);
+    let address = address_text::address::read_address(s);
     let kind = address.kind;
     let bytes = address.bytes;
     match kind {
@@ -23,11 +23,11 @@ pub fn put_address(s: &[u8], writer: Writer, text: &mut [u8]) -> Writer {
 }
 
 pub fn put_host(s: &[u8], writer: Writer, text: &mut [u8]) -> Writer {
-    put_field(writer, text, host::strip_ipv6_brackets(s))
+    put_field(writer, text, address_text::host::strip_ipv6_brackets(s))
 }
 
 pub fn put_utf8(s: &[u8], writer: Writer, text: &mut [u8]) -> Writer {
-    if utf8::is_utf8(s) {
+    if utf8::text::is_utf8(s) {
         return put_byte(writer, text, b'1');
     }
     put_byte(writer, text, b'0')

@@ -1,5 +1,5 @@
 // Text that goes to a file through a lent buffer: numbers in decimal, bytes in lower-case hexadecimal, `-` for none.
-use numerals::hex_digit;
+use address_format::numerals::hex_digit;
 use protocol::SocksError;
 
 // The file, and how much of the buffer is still to be written to it.

@@ -17,25 +17,25 @@ use Rattle.protocol.specs.Client as client
 use Rattle.protocol.specs.Client.{side, begun, outcomeOf}
 use Rattle.protocol.proofs.Client.{client-lawful, begun-shaped}
 use Rattle.protocol.proofs.Rooms.{begun-waits}
-use Rattle.sending.specs.declared.Stage.{Stage}
-use Rattle.sending.specs.declared.Stage.the-variants.{Awaiting, Open, Failed}
-use Rattle.sending.specs.Parts.{requestsOf}
-use Rattle.sending.specs.Stages.{SideSession, SideFed, viewAt, holdsOf}
-use Rattle.session.specs.declared.Session.{Session}
-use Rattle.session.specs.Session.{heldBytes}
-use Rattle.session.specs.Calls.{Call}
+use Rattle.client_stages.specs.declared.due.Stage.{Stage}
+use Rattle.client_stages.specs.declared.due.Stage.the-variants.{Awaiting, Open, Failed}
+use Rattle.client_stages.specs.due.Parts.{requestsOf}
+use Rattle.client_stages.specs.due.Stages.{SideSession, SideFed, viewAt, holdsOf}
+use Rattle.client_session.specs.declared.Session.{Session}
+use Rattle.client_session.specs.Session.{heldBytes}
+use Rattle.client_session.specs.Calls.{Call}
 use Rattle.socks.specs.Attempts.{oneIf, isWaiting, hasByte, lendsFor, attemptsAt}
 use Rattle.socks.proofs.Tunnels.{Stands, step}
 use Rattle.socks.proofs.Attempts.{stands-on, tallied}
-use Rattle.relaying.specs.declared.Hop as relaying
-use Rattle.relaying.specs.Relay.{noHop, requestsAt, goesAt, begunAt, Relay, handed, alone, handingOn, relayed}
-use Rattle.routing.specs.Route as routing
-use Rattle.routing.specs.Route.{roomFor}
-use Rattle.routing.specs.Hops.{Hop, hopOf}
-use Rattle.routing.proofs.Rooms.{EachLimits}
-use Rattle.route_calls.specs.declared.Route.{Route}
-use Rattle.route_calls.specs.Calls as route
-use Rattle.route_calls.specs.Calls.{startedFor, refusal, behindIn, roomIn, sessionIn, takes, deliver}
+use Rattle.route_delivery.specs.declared.Hop as relaying
+use Rattle.route_delivery.specs.Relay.{noHop, requestsAt, goesAt, begunAt, Relay, handed, alone, handingOn, relayed}
+use Rattle.route_spec.specs.Route as routing
+use Rattle.route_spec.specs.Route.{roomFor}
+use Rattle.route_spec.specs.Hops.{Hop, hopOf}
+use Rattle.route_spec.proofs.Rooms.{EachLimits}
+use Rattle.route_session.specs.declared.calls.Route.{Route}
+use Rattle.route_session.specs.calls.Calls as route
+use Rattle.route_session.specs.calls.Calls.{startedFor, refusal, behindIn, roomIn, sessionIn, takes, deliver}
 use Rattle.route.specs.Routed.{receiverOf, attemptsInTurn, lending, Through}
 use Rattle.route.proofs.Relays.{waits-open, fails-open, hopOn, aheadOf}
 use Rattle.route.proofs.Openings.{ahead-of, opened-as, Attempted, through-with}

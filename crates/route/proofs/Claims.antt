@@ -16,16 +16,16 @@ use Rattle.protocol.specs.Numbers.{answerNumber, outcomeNumber}
 use Rattle.protocol.specs.Bound.{Endpoint, addressOf}
 use Rattle.protocol.specs.Opening.{Opening, None}
 use Rattle.protocol.proofs.Limits.{number-accepted}
-use Rattle.session.specs.Session as session
-use Rattle.session.specs.Calls as session-calls
+use Rattle.client_session.specs.Session as session
+use Rattle.client_session.specs.Calls as session-calls
 use Rattle.socks.specs.InTwo.{inTwo}
 use Rattle.socks.specs.Turns.{noAddress}
-use Rattle.planning.specs.Plan.{preparedFor}
+use Rattle.route_session.specs.plan.Plan.{preparedFor}
 use Rattle.socks.proofs.Claims.{holds, holds-second}
-use Rattle.routing.specs.Route as routing
-use Rattle.routing.specs.Route.{Asked, roomFor, openings, conditions, machines, usedInTurn, Sequences}
-use Rattle.route_calls.specs.declared.Route.{Route}
-use Rattle.route_calls.specs.Calls.{Call, outcome, bound, opening, deliver, end}
+use Rattle.route_spec.specs.Route as routing
+use Rattle.route_spec.specs.Route.{Asked, roomFor, openings, conditions, machines, usedInTurn, Sequences}
+use Rattle.route_session.specs.declared.calls.Route.{Route}
+use Rattle.route_session.specs.calls.Calls.{Call, outcome, bound, opening, deliver, end}
 use Rattle.route.specs.Routed as routed
 use Rattle.route.specs.Routed.{receiver, sessionReceiver, toldBy, tunnelOf, joinedOf, attemptsInTurn, lending, Routed, AsOne}
 use Rattle.route.specs.Turns.{Tells, InTurn, OpensInTurn}

@@ -14,26 +14,26 @@ use Rattle.protocol.specs.Bound.{unbound}
 use Rattle.protocol.specs.Opening.{Opening, v5, v4, noAuth, userPass, firstReply, atOpening, Limits}
 use Rattle.protocol.specs.Machine.{sends}
 use Rattle.protocol.specs.Client as client
-use Rattle.sending.specs.Parts.{requestsOf, firstOf}
-use Rattle.session.specs.Calls.{keptBy}
-use Rattle.session.specs.Session.{view}
-use Rattle.openings.proofs.KeptBy.{kept-parts, kept-by}
+use Rattle.client_stages.specs.due.Parts.{requestsOf, firstOf}
+use Rattle.client_session.specs.Calls.{keptBy}
+use Rattle.client_session.specs.Session.{view}
+use Rattle.client_opening.proofs.common.KeptBy.{kept-parts, kept-by}
 use Rattle.protocol.specs.Bytes.{BytePieces}
 use Rattle.protocol.proofs.Openings.{clash}
-use Rattle.relaying.specs.declared.Hop as relaying
-use Rattle.planning.specs.Plan.{hopFor, hopsFor, bytesFor}
-use Rattle.routing.specs.Route as routing
-use Rattle.routing.specs.Route.{roomFor, openings}
-use Rattle.routing.specs.Hops.{hopOf, at, routeSide, routeTalk, RouteFed}
-use Rattle.routing.proofs.Steps.{through-begins}
-use Rattle.routing.proofs.Rooms.{EachLimits}
-use Rattle.route_calls.specs.declared.Route.{Route}
-use Rattle.route_calls.specs.Calls.{Call, behindIn, roomIn, sessionIn, startedFor, begins, openBy, opening}
+use Rattle.route_delivery.specs.declared.Hop as relaying
+use Rattle.route_session.specs.plan.Plan.{hopFor, hopsFor, bytesFor}
+use Rattle.route_spec.specs.Route as routing
+use Rattle.route_spec.specs.Route.{roomFor, openings}
+use Rattle.route_spec.specs.Hops.{hopOf, at, routeSide, routeTalk, RouteFed}
+use Rattle.route_spec.proofs.Steps.{through-begins}
+use Rattle.route_spec.proofs.Rooms.{EachLimits}
+use Rattle.route_session.specs.declared.calls.Route.{Route}
+use Rattle.route_session.specs.calls.Calls.{Call, behindIn, roomIn, sessionIn, startedFor, begins, openBy, opening}
 use Rattle.route.specs.Routed.{tunnelOf, attemptsInTurn, lending, Routed, Through}
 use Rattle.route.proofs.Refusals.{opened-some, opened-eight, opened-limits}
 use Rattle.route.proofs.Relays.{waits-open, keptAt, hopOn, aheadOf, standsAt}
 use Rattle.route.proofs.Tunnels.{Stands, Begun, routed-with}
-use Rattle.route_opening.proofs.Kept.{hop-at, requests-at, hops-row, bytes-row}
+use Rattle.route_session.proofs.opening.Kept.{hop-at, requests-at, hops-row, bytes-row}
 use Rattle.talk.specs.Talk.{waiting, feed}
 use Rattle.talk.specs.Tunnel.{Delivery}
 

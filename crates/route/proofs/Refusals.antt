@@ -8,13 +8,13 @@ use Rattle.protocol.specs.declared.Answer as code
 use Rattle.protocol.specs.declared.Answer.the-variants.{Accepted, Refused}
 use Rattle.protocol.specs.Opening.{Opening}
 use Rattle.protocol.proofs.Openings.{clash}
-use Rattle.routing.specs.Route as routing
-use Rattle.routing.specs.Route.{asked, openingFor, openings, roomFor, check}
-use Rattle.routing.proofs.Asked.{asked-each}
-use Rattle.routing.proofs.Checks.{Acceptable, accepted-has}
-use Rattle.routing.proofs.Rooms.{EachLimits, each-limits}
-use Rattle.route_calls.specs.declared.Route.{Route}
-use Rattle.route_calls.specs.Calls.{roomIn, openBy, opening}
+use Rattle.route_spec.specs.Route as routing
+use Rattle.route_spec.specs.Route.{asked, openingFor, openings, roomFor, check}
+use Rattle.route_spec.proofs.Asked.{asked-each}
+use Rattle.route_spec.proofs.Checks.{Acceptable, accepted-has}
+use Rattle.route_spec.proofs.Rooms.{EachLimits, each-limits}
+use Rattle.route_session.specs.declared.calls.Route.{Route}
+use Rattle.route_session.specs.calls.Calls.{roomIn, openBy, opening}
 
 -- ---- an opening: 21, then 1, then its openings' own numbers
 

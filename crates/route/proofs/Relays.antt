@@ -17,19 +17,19 @@ use Rattle.protocol.specs.declared.Outcome.the-variants as Out
 use Rattle.protocol.specs.Bound.{Endpoint}
 use Rattle.protocol.specs.Client.{Kept, client, outcomeOf}
 use Rattle.protocol.proofs.Client.{client-lawful}
-use Rattle.sending.specs.declared.Stage.{Stage}
-use Rattle.sending.specs.declared.Stage.the-variants.{Awaiting, Open, Failed}
-use Rattle.sending.specs.Stages.{SideSession, SideFed, viewAt, stageOf}
-use Rattle.sending.specs.Parts.{requestsOf}
-use Rattle.session.specs.declared.Session.{Session}
-use Rattle.session.specs.Session.{sideOf, view, outcome, roomAt}
-use Rattle.session.specs.Calls.{Call, takes, deliver}
+use Rattle.client_stages.specs.declared.due.Stage.{Stage}
+use Rattle.client_stages.specs.declared.due.Stage.the-variants.{Awaiting, Open, Failed}
+use Rattle.client_stages.specs.due.Stages.{SideSession, SideFed, viewAt, stageOf}
+use Rattle.client_stages.specs.due.Parts.{requestsOf}
+use Rattle.client_session.specs.declared.Session.{Session}
+use Rattle.client_session.specs.Session.{sideOf, view, outcome, roomAt}
+use Rattle.client_session.specs.Calls.{Call, takes, deliver}
 use Rattle.socks.proofs.Tunnels.{view-packed}
-use Rattle.relaying.specs.declared.Hop as relaying
-use Rattle.relaying.specs.Relay.{hopAt, requestsAt, goesAt, begunAt, Relay, handed, alone, handingOn, relayed}
-use Rattle.routing.specs.Hops.{Hop, at, onThrough, routeAt, routeSide, RouteSession, RouteFed}
-use Rattle.routing.proofs.Lawful.{at-feed, through-next, through-none}
-use Rattle.routing.proofs.Steps.{at-still}
+use Rattle.route_delivery.specs.declared.Hop as relaying
+use Rattle.route_delivery.specs.Relay.{hopAt, requestsAt, goesAt, begunAt, Relay, handed, alone, handingOn, relayed}
+use Rattle.route_spec.specs.Hops.{Hop, at, onThrough, routeAt, routeSide, RouteSession, RouteFed}
+use Rattle.route_spec.proofs.Lawful.{at-feed, through-next, through-none}
+use Rattle.route_spec.proofs.Steps.{at-still}
 use Rattle.talk.specs.Talk.{done, failed, waiting, ended, sending, feed, onward, heldBy, isOver, reached}
 use Rattle.talk.specs.Tunnel.{given}
 use Rattle.talk.specs.Graft.{thenOn}

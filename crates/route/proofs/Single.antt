@@ -17,27 +17,27 @@ use Rattle.protocol.specs.declared.Bound.{Bound}
 use Rattle.protocol.specs.Opening.{Opening, v5, v4, noAuth, userPass, firstReply, Limits}
 use Rattle.protocol.specs.Bound.{unbound, boundOf}
 use Rattle.protocol.specs.Client.{firstRoom, outcomeOf}
-use Rattle.sending.specs.declared.Stage.{Stage}
-use Rattle.sending.specs.declared.Stage.the-variants.{Awaiting, Failed}
-use Rattle.sending.specs.Parts.{firstOf}
-use Rattle.sending.specs.Stages.{viewAt}
-use Rattle.session.specs.declared.Session.{Session}
-use Rattle.session.specs.Session as session
-use Rattle.session.specs.Session.{view, roomAt}
-use Rattle.session.specs.Calls as session-calls
-use Rattle.session.specs.Calls.{Call, keptBy, preparedBy, prepare5, prepare4, starts, start, takes}
+use Rattle.client_stages.specs.declared.due.Stage.{Stage}
+use Rattle.client_stages.specs.declared.due.Stage.the-variants.{Awaiting, Failed}
+use Rattle.client_stages.specs.due.Parts.{firstOf}
+use Rattle.client_stages.specs.due.Stages.{viewAt}
+use Rattle.client_session.specs.declared.Session.{Session}
+use Rattle.client_session.specs.Session as session
+use Rattle.client_session.specs.Session.{view, roomAt}
+use Rattle.client_session.specs.Calls as session-calls
+use Rattle.client_session.specs.Calls.{Call, keptBy, preparedBy, prepare5, prepare4, starts, start, takes}
 use Rattle.socks.specs.InTwo.{inTwo}
-use Rattle.relaying.specs.Relay.{noHop, requestsAt, handed, alone, relayed}
-use Rattle.planning.specs.Plan.{preparedFor, hopsFor, bytesFor}
-use Rattle.routing.specs.Route as routing
-use Rattle.routing.specs.Route.{Proxy, Asked, over5, over4, askedBy, askedOf, openingFor, checkFor, unlessRefused, checkInTurn, check}
-use Rattle.routing.proofs.Rooms.{each-limits}
-use Rattle.route_calls.specs.declared.Route.{Route}
-use Rattle.route_calls.specs.Calls as route
-use Rattle.route_calls.specs.Calls.{behindIn, roomIn, sessionIn, withSession, outcome, isOver, startedFor, openBy, opening, deliver, end}
+use Rattle.route_delivery.specs.Relay.{noHop, requestsAt, handed, alone, relayed}
+use Rattle.route_session.specs.plan.Plan.{preparedFor, hopsFor, bytesFor}
+use Rattle.route_spec.specs.Route as routing
+use Rattle.route_spec.specs.Route.{Proxy, Asked, over5, over4, askedBy, askedOf, openingFor, checkFor, unlessRefused, checkInTurn, check}
+use Rattle.route_spec.proofs.Rooms.{each-limits}
+use Rattle.route_session.specs.declared.calls.Route.{Route}
+use Rattle.route_session.specs.calls.Calls as route
+use Rattle.route_session.specs.calls.Calls.{behindIn, roomIn, sessionIn, withSession, outcome, isOver, startedFor, openBy, opening, deliver, end}
 use Rattle.route.specs.Routed.{receiver, sessionReceiver, Told, told, toldBy, Lent, AsOne, Single}
 use Rattle.route.proofs.Relays.{room-small}
-use Rattle.route_opening.proofs.Kept.{requests-at}
+use Rattle.route_session.proofs.opening.Kept.{requests-at}
 use Rattle.talk.specs.Talk as talk
 use Rattle.talk.specs.Tunnel.{Delivery, answerTo, after}
 

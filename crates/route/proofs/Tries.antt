@@ -15,7 +15,7 @@ use Rattle.protocol.specs.Machine.{Machine, machine}
 use Rattle.protocol.specs.Client.{begun, side, outcomeOf}
 use Rattle.protocol.specs.Client as client
 use Rattle.protocol.proofs.Client.{client-lawful, begun-shaped, machine-feed}
-use Rattle.sending.specs.Stages.{SideSession, SideFed}
+use Rattle.client_stages.specs.due.Stages.{SideSession, SideFed}
 use Rattle.socks.specs.Attempts.{isWaiting, hasByte, lendsFor, attemptsAt, attemptsOf}
 use Rattle.route.specs.Routed.{leftBy, handedOn, attemptsInTurn}
 use Rattle.talk.specs.Talk.{feed, waiting, ended, isOver}

@@ -16,17 +16,17 @@ use Rattle.protocol.specs.Opening.{Opening}
 use Rattle.protocol.specs.Machine.{Machine}
 use Rattle.protocol.specs.Client as client
 use Rattle.protocol.proofs.Bytes.{joined-bytes}
-use Rattle.sending.specs.Stages.{SideSession}
-use Rattle.session.specs.Session.{view}
-use Rattle.relaying.specs.declared.Hop as relaying
-use Rattle.relaying.specs.Relay.{Relay, relayed}
-use Rattle.routing.specs.Route.{roomFor, machines, usedInTurn}
-use Rattle.routing.specs.Hops.{hopOf, routeSide, routeTalk, RouteSession, RouteFed, outcomeIn, boundIn}
-use Rattle.routing.proofs.Lawful.{route-lawful, through-shaped}
-use Rattle.routing.proofs.Machines.{machines-feed, used-in-turn}
-use Rattle.routing.proofs.Sequences.{in-turn-just, in-turn-one}
-use Rattle.route_calls.specs.declared.Route.{Route}
-use Rattle.route_calls.specs.Calls.{behindIn, roomIn, sessionIn, withSession, outcome, bound, refusal, takes, deliver}
+use Rattle.client_stages.specs.due.Stages.{SideSession}
+use Rattle.client_session.specs.Session.{view}
+use Rattle.route_delivery.specs.declared.Hop as relaying
+use Rattle.route_delivery.specs.Relay.{Relay, relayed}
+use Rattle.route_spec.specs.Route.{roomFor, machines, usedInTurn}
+use Rattle.route_spec.specs.Hops.{hopOf, routeSide, routeTalk, RouteSession, RouteFed, outcomeIn, boundIn}
+use Rattle.route_spec.proofs.Lawful.{route-lawful, through-shaped}
+use Rattle.route_spec.proofs.Machines.{machines-feed, used-in-turn}
+use Rattle.route_spec.proofs.Sequences.{in-turn-just, in-turn-one}
+use Rattle.route_session.specs.declared.calls.Route.{Route}
+use Rattle.route_session.specs.calls.Calls.{behindIn, roomIn, sessionIn, withSession, outcome, bound, refusal, takes, deliver}
 use Rattle.route.specs.Routed.{receiver, tunnelOf, joinedOf, Alike, attemptsInTurn, lending, Routed}
 use Rattle.route.proofs.Relays.{keptAt, standsAt, Onward, relayed-onward}
 use Rattle.talk.specs.Talk as talk

@@ -19,25 +19,25 @@ use Rattle.protocol.specs.Opening.{_↣_, Answers, refuse, Opening, firstReply}
 use Rattle.protocol.proofs.Openings.{clash, same-error, not-long, all-passed, checked}
 use Rattle.protocol.proofs.Judged.{judged, refuses, accepts, answered, stays}
 use Rattle.protocol.proofs.Limits.{answer-not-11, outcome-not-11}
-use Rattle.sending.specs.declared.Requests.{Requests}
-use Rattle.sending.specs.declared.Stage.{Stage}
-use Rattle.sending.specs.declared.Stage.the-variants.{Awaiting, Open, Failed}
-use Rattle.sending.specs.Parts.{firstOf}
-use Rattle.sending.specs.Stages.{viewAt}
-use Rattle.session.specs.declared.Session.{Session}
-use Rattle.session.specs.Session as session
-use Rattle.session.specs.Session.{packed, view}
-use Rattle.session.specs.Calls as session-calls
-use Rattle.session.specs.Calls.{keptBy}
+use Rattle.client_stages.specs.declared.due.Requests.{Requests}
+use Rattle.client_stages.specs.declared.due.Stage.{Stage}
+use Rattle.client_stages.specs.declared.due.Stage.the-variants.{Awaiting, Open, Failed}
+use Rattle.client_stages.specs.due.Parts.{firstOf}
+use Rattle.client_stages.specs.due.Stages.{viewAt}
+use Rattle.client_session.specs.declared.Session.{Session}
+use Rattle.client_session.specs.Session as session
+use Rattle.client_session.specs.Session.{packed, view}
+use Rattle.client_session.specs.Calls as session-calls
+use Rattle.client_session.specs.Calls.{keptBy}
 use Rattle.socks.specs.Turns.{noAddress}
 use Rattle.socks.proofs.Turns.{over-just, sendsAt, first-room, deliver-sends}
-use Rattle.relaying.specs.declared.Hop.{Hop}
-use Rattle.relaying.specs.Relay.{hopAt, requestsAt, goesAt, begunAt, Relay, handed, alone, handingOn, relayed}
-use Rattle.routing.specs.Route as routing
-use Rattle.routing.specs.Route.{openings, roomFor, check}
-use Rattle.routing.proofs.Checks.{check-just, accepted-has}
-use Rattle.route_calls.specs.declared.Route.{Route}
-use Rattle.route_calls.specs.Calls.{Call, refusal, lastIn, behindIn, roomIn, sessionIn, withSession, outcome, bound, isOver, openBy, opening, takes, deliver, end}
+use Rattle.route_delivery.specs.declared.Hop.{Hop}
+use Rattle.route_delivery.specs.Relay.{hopAt, requestsAt, goesAt, begunAt, Relay, handed, alone, handingOn, relayed}
+use Rattle.route_spec.specs.Route as routing
+use Rattle.route_spec.specs.Route.{openings, roomFor, check}
+use Rattle.route_spec.proofs.Checks.{check-just, accepted-has}
+use Rattle.route_session.specs.declared.calls.Route.{Route}
+use Rattle.route_session.specs.calls.Calls.{Call, refusal, lastIn, behindIn, roomIn, sessionIn, withSession, outcome, bound, isOver, openBy, opening, takes, deliver, end}
 use Rattle.route.specs.Routed.{receiver}
 use Rattle.route.specs.Turns.{Tells, Untouched, InTurn, AnyInTurn, OpensInTurn, Without, Never11}
 use Rattle.route.proofs.Refusals.{opening-answers, opened-asks}

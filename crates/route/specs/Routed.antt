@@ -13,17 +13,17 @@ use Rattle.protocol.specs.declared.Outcome.the-variants.{Waiting, Open, Failed}
 use Rattle.protocol.specs.Bound.{addressOf}
 use Rattle.protocol.specs.Opening.{Opening}
 use Rattle.protocol.specs.Machine.{machine}
-use Rattle.session.specs.declared.Session.{Session}
-use Rattle.session.specs.Session as session
-use Rattle.session.specs.Calls as session-calls
+use Rattle.client_session.specs.declared.Session.{Session}
+use Rattle.client_session.specs.Session as session
+use Rattle.client_session.specs.Calls as session-calls
 use Rattle.protocol.specs.Bytes.{BytePieces}
 use Rattle.socks.specs.InTwo.{inTwo}
 use Rattle.socks.specs.Attempts.{attemptsOf}
-use Rattle.planning.specs.Plan.{preparedFor}
-use Rattle.routing.specs.Route as routing
-use Rattle.routing.specs.Route.{Proxy, Asked, askedBy, roomFor, openings, machines, usedInTurn, RepliedInTurn, JustOneRow}
-use Rattle.route_calls.specs.declared.Route.{Route}
-use Rattle.route_calls.specs.Calls.{outcome, bound, opening, deliver, end}
+use Rattle.route_session.specs.plan.Plan.{preparedFor}
+use Rattle.route_spec.specs.Route as routing
+use Rattle.route_spec.specs.Route.{Proxy, Asked, askedBy, roomFor, openings, machines, usedInTurn, RepliedInTurn, JustOneRow}
+use Rattle.route_session.specs.declared.calls.Route.{Route}
+use Rattle.route_session.specs.calls.Calls.{outcome, bound, opening, deliver, end}
 use Rattle.talk.specs.Tunnel.{Answer, Receiver, Delivery, lends, answerTo, after, joined, Tunnel, tunnel}
 
 -- ---- a route takes pieces by the exported call; those deliveries to a route of so many openings count that lend 1,024 bytes for each

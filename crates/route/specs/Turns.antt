@@ -12,10 +12,10 @@ use Rattle.protocol.specs.declared.SocksError.the-variants.{UnexpectedEof}
 use Rattle.protocol.specs.Numbers.{answerNumber, outcomeNumber}
 use Rattle.protocol.specs.Opening.{_↣_, Answers}
 use Rattle.socks.specs.Turns.{noAddress}
-use Rattle.routing.specs.Route as routing
-use Rattle.routing.specs.Route.{roomFor, openings, conditions}
-use Rattle.route_calls.specs.declared.Route.{Route}
-use Rattle.route_calls.specs.Calls.{Call, refusal, outcome, bound, opening, deliver, end}
+use Rattle.route_spec.specs.Route as routing
+use Rattle.route_spec.specs.Route.{roomFor, openings, conditions}
+use Rattle.route_session.specs.declared.calls.Route.{Route}
+use Rattle.route_session.specs.calls.Calls.{Call, refusal, outcome, bound, opening, deliver, end}
 use Rattle.route.specs.Routed.{tunnelOf}
 use Rattle.talk.specs.Tunnel.{Delivery, Behind}
 

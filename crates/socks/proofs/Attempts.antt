@@ -18,12 +18,12 @@ use Rattle.protocol.proofs.Tests.{both}
 use Rattle.protocol.proofs.Client.{client-lawful, begun-shaped, machine-feed, decided-feed, decided-three}
 use Rattle.protocol.proofs.Bytes.{joined-bytes}
 use Rattle.protocol.proofs.Limits.{limits5, limits4}
-use Rattle.sending.specs.Parts.{requestsOf}
-use Rattle.sending.specs.Stages.{SideSession, holdsOf}
-use Rattle.sending.proofs.Held.{begun-held}
-use Rattle.session.specs.declared.Session.{Session}
-use Rattle.session.specs.Session.{view, heldBytes, roomAt}
-use Rattle.session.specs.Calls.{Call, refusal, takes, deliver, start, preparedBy, prepare5, prepare4}
+use Rattle.client_stages.specs.due.Parts.{requestsOf}
+use Rattle.client_stages.specs.due.Stages.{SideSession, holdsOf}
+use Rattle.client_stages.proofs.due.Held.{begun-held}
+use Rattle.client_session.specs.declared.Session.{Session}
+use Rattle.client_session.specs.Session.{view, heldBytes, roomAt}
+use Rattle.client_session.specs.Calls.{Call, refusal, takes, deliver, start, preparedBy, prepare5, prepare4}
 use Rattle.socks.specs.Demand3.{receiver}
 use Rattle.protocol.specs.Bytes.{BytePieces}
 use Rattle.socks.specs.Attempts.{oneIf, isWaiting, isAccepted, hasByte, lendsFor, counts, attemptsAt, attemptsOf, acceptedIn, heldOf, heldOn, Effort, Tried}

@@ -23,12 +23,12 @@ use Rattle.protocol.specs.AddressReading.{Destination}
 use Rattle.protocol.proofs.Limits.{number-accepted}
 use Rattle.protocol.proofs.Claims.{one-length}
 use Rattle.protocol.proofs.Named.{named-back}
-use Rattle.bound_text.specs.Text.{textOf, boundText}
-use Rattle.bound_text.specs.Written.{TextCall, writeText}
-use Rattle.session.specs.declared.Session.{Session}
-use Rattle.session.specs.declared.Prepared.{Prepared}
-use Rattle.session.specs.Session.{outcome, bound, writeBound}
-use Rattle.session.specs.Calls.{Call, start, deliver, end}
+use Rattle.address_format.specs.endpoint.Text.{textOf, boundText}
+use Rattle.address_format.specs.endpoint.Written.{TextCall, writeText}
+use Rattle.client_session.specs.declared.Session.{Session}
+use Rattle.client_session.specs.declared.Prepared.{Prepared}
+use Rattle.client_session.specs.Session.{outcome, bound, writeBound}
+use Rattle.client_session.specs.Calls.{Call, start, deliver, end}
 use Rattle.socks.specs.Demand3.{tunnelOf, joinedOf, Demand3}
 use Rattle.socks.specs.Turns.{Tells, noAddress, Preparing, InTurn, Asking}
 use Rattle.socks.specs.Attempts.{receiverOf, acceptedIn, heldOf, Effort}

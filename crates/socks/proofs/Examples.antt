@@ -8,7 +8,7 @@ use Rattle.protocol.specs.Opening.{firstFour, announces, check5, check4, openin
 use Rattle.protocol.specs.Utf8.{classOf, among, first, next, scan, isBoundary, isUtf8}
 use Rattle.protocol.specs.Replies.{negotiationVerdict, authenticationVerdict, responseVerdict, headAllowed, typeAllowed, proxySize, nameField, proxyVerdict, proxyAt, decide}
 use Rattle.protocol.specs.Examples.{cases}
-use Rattle.session.specs.Calls.{prepare5, prepare4, start, deliver, end}
+use Rattle.client_session.specs.Calls.{prepare5, prepare4, start, deliver, end}
 use Rattle.socks.specs.Examples.{called, Turns, Tries}
 use Rattle.talk.specs.Attempts.{decidedIn, decidedBy}
 use Rattle.talk.specs.Talk.{feed, onward}

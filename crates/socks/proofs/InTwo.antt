@@ -21,10 +21,10 @@ use Rattle.protocol.proofs.Client.{machine-feed}
 use Rattle.protocol.proofs.Openings.{clash, same-error, not-long, all-passed, checked, less-just, check5-just, check4-just}
 use Rattle.protocol.proofs.Limits.{limits5, limits4, number-is}
 use Rattle.protocol.proofs.Claims.{answers-behind, answers-before}
-use Rattle.sending.specs.Parts.{firstOf}
-use Rattle.sending.specs.Stages.{SideFed}
-use Rattle.session.specs.Calls.{Call, refusal, keptBy, preparedFor, emptySession, preparedBy, prepare5, prepare4, starts, start}
-use Rattle.openings.proofs.KeptBy.{kept-parts}
+use Rattle.client_stages.specs.due.Parts.{firstOf}
+use Rattle.client_stages.specs.due.Stages.{SideFed}
+use Rattle.client_session.specs.Calls.{Call, refusal, keptBy, preparedFor, emptySession, preparedBy, prepare5, prepare4, starts, start}
+use Rattle.client_opening.proofs.common.KeptBy.{kept-parts}
 use Rattle.socks.specs.InTwo.{begins, openBy, open5, open4, inTwo, InTwo}
 use Rattle.talk.specs.Talk.{feed, waiting}
 use Rattle.talk.proofs.Feed.{same-fed}

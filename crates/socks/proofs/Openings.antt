@@ -15,11 +15,11 @@ use Rattle.protocol.specs.Machine.{Machine, machine}
 use Rattle.protocol.proofs.Client.{machine-feed}
 use Rattle.protocol.proofs.Limits.{limits5, limits4}
 use Rattle.protocol.proofs.Rooms.{begun-waits}
-use Rattle.session.specs.declared.Session.{Session}
-use Rattle.session.specs.Session.{view, heldBytes}
-use Rattle.session.specs.Calls.{Call, preparedFor, emptySession, preparedBy, prepare5, prepare4, start}
-use Rattle.openings.proofs.KeptBy.{kept-by}
-use Rattle.sending.specs.Stages.{SideSession, SideFed, holdsOf}
+use Rattle.client_session.specs.declared.Session.{Session}
+use Rattle.client_session.specs.Session.{view, heldBytes}
+use Rattle.client_session.specs.Calls.{Call, preparedFor, emptySession, preparedBy, prepare5, prepare4, start}
+use Rattle.client_opening.proofs.common.KeptBy.{kept-by}
+use Rattle.client_stages.specs.due.Stages.{SideSession, SideFed, holdsOf}
 use Rattle.socks.specs.InTwo.{begins}
 use Rattle.socks.specs.Demand3.{receiver, Tunnelled}
 use Rattle.socks.specs.Turns.{InTurn, Asking}

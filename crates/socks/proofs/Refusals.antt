@@ -14,10 +14,10 @@ use Rattle.protocol.specs.Numbers.{answerNumber, outcomeNumber}
 use Rattle.protocol.specs.Opening.{V5, V4, Condition, conditions5, conditions4, Answers, check5, check4, Opening, opening5, opening4}
 use Rattle.protocol.proofs.Limits.{answer-not-11, outcome-not-11}
 use Rattle.protocol.proofs.Openings.{clash, same-error, check5-just, check4-just, lookup5, lookup4}
-use Rattle.session.specs.declared.Session.{Session}
-use Rattle.session.specs.declared.Prepared.{Prepared}
-use Rattle.session.specs.Session.{outcome}
-use Rattle.session.specs.Calls.{Call, Without, emptySession, preparedBy, prepare5, prepare4, start, deliver, end}
+use Rattle.client_session.specs.declared.Session.{Session}
+use Rattle.client_session.specs.declared.Prepared.{Prepared}
+use Rattle.client_session.specs.Session.{outcome}
+use Rattle.client_session.specs.Calls.{Call, Without, emptySession, preparedBy, prepare5, prepare4, start, deliver, end}
 use Rattle.socks.specs.Turns.{Tells, noAddress, Preparing}
 
 -- ---- preparing: it answers as its checks do, and returns a session that waits, or the empty one, failed with the error

@@ -21,13 +21,13 @@ use Rattle.protocol.proofs.Bytes.{joined-bytes}
 use Rattle.protocol.specs.Client.{Waits}
 use Rattle.protocol.proofs.Rooms.{onward-waits}
 use Rattle.protocol.proofs.Sequences.{open-just, open-one}
-use Rattle.session.specs.declared.Session.{Session}
-use Rattle.sending.specs.declared.Stage.{Stage}
-use Rattle.sending.specs.declared.Stage.the-variants.{Awaiting, Open as OpenStage, Failed}
-use Rattle.sending.specs.Stages.{SideSession, viewAt, holdsOf}
-use Rattle.sending.specs.Parts.{requestsOf}
-use Rattle.session.specs.Session.{heldBytes, view, packed, outcome, bound, roomAt}
-use Rattle.session.specs.Calls.{refusal, takes, deliver}
+use Rattle.client_session.specs.declared.Session.{Session}
+use Rattle.client_stages.specs.declared.due.Stage.{Stage}
+use Rattle.client_stages.specs.declared.due.Stage.the-variants.{Awaiting, Open as OpenStage, Failed}
+use Rattle.client_stages.specs.due.Stages.{SideSession, viewAt, holdsOf}
+use Rattle.client_stages.specs.due.Parts.{requestsOf}
+use Rattle.client_session.specs.Session.{heldBytes, view, packed, outcome, bound, roomAt}
+use Rattle.client_session.specs.Calls.{refusal, takes, deliver}
 use Rattle.socks.specs.Demand3.{receiver, Alike, tunnelOf, joinedOf, Demand3}
 use Rattle.talk.specs.Talk as talk
 use Rattle.talk.specs.Tunnel as side

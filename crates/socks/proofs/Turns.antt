@@ -22,23 +22,23 @@ use Rattle.protocol.specs.Client.{client, outcomeOf}
 use Rattle.protocol.proofs.Openings.{clash, same-error, not-long, all-passed, checked}
 use Rattle.protocol.proofs.Judged.{judged, refuses, accepts, answered, stays}
 use Rattle.protocol.proofs.Rooms.{sendsMost, asks-more, onward-sends}
-use Rattle.bound_text.specs.Text.{boundText}
-use Rattle.bound_text.specs.Written.{TextCall, unwritten, writeText}
-use Rattle.sending.specs.declared.Requests.{Requests}
-use Rattle.sending.specs.declared.Stage.{Stage}
-use Rattle.sending.specs.declared.Stage.the-variants.{Awaiting, Open, Failed}
-use Rattle.sending.specs.declared.Lengths.{Lengths}
-use Rattle.sending.specs.Parts.{negotiationSize, authenticationSize, proxySize, requestsOf, firstOf}
-use Rattle.sending.specs.Stages.{SideSession, viewAt, rank}
-use Rattle.sending.proofs.Sending.{kept-limits}
-use Rattle.starting.specs.Starting.{firstSize5, firstSize}
-use Rattle.starting.proofs.Laws.{first-part, first-fits}
-use Rattle.stages.specs.Told.{isOpen}
-use Rattle.session.specs.declared.Session.{Session}
-use Rattle.session.specs.Session.{sideOf, view, heldBytes, packed, outcome, bound, writeBound, firstRoomAt, firstAt, roomAt}
-use Rattle.session.proofs.Named as named
-use Rattle.session.proofs.Deliveries.{is-over}
-use Rattle.session.specs.Calls.{Call, starts, start, takes, deliver, end}
+use Rattle.address_format.specs.endpoint.Text.{boundText}
+use Rattle.address_format.specs.endpoint.Written.{TextCall, unwritten, writeText}
+use Rattle.client_stages.specs.declared.due.Requests.{Requests}
+use Rattle.client_stages.specs.declared.due.Stage.{Stage}
+use Rattle.client_stages.specs.declared.due.Stage.the-variants.{Awaiting, Open, Failed}
+use Rattle.client_stages.specs.declared.due.Lengths.{Lengths}
+use Rattle.client_stages.specs.due.Parts.{negotiationSize, authenticationSize, proxySize, requestsOf, firstOf}
+use Rattle.client_stages.specs.due.Stages.{SideSession, viewAt, rank}
+use Rattle.client_stages.proofs.due.Sending.{kept-limits}
+use Rattle.client_stages.specs.start.Starting.{firstSize5, firstSize}
+use Rattle.client_stages.proofs.start.Laws.{first-part, first-fits}
+use Rattle.client_stages.specs.outcome.Told.{isOpen}
+use Rattle.client_session.specs.declared.Session.{Session}
+use Rattle.client_session.specs.Session.{sideOf, view, heldBytes, packed, outcome, bound, writeBound, firstRoomAt, firstAt, roomAt}
+use Rattle.client_session.proofs.Named as named
+use Rattle.client_session.proofs.Deliveries.{is-over}
+use Rattle.client_session.specs.Calls.{Call, starts, start, takes, deliver, end}
 use Rattle.socks.specs.Turns.{Tells, noAddress, Untouched, InTurn, AnyInTurn}
 use Rattle.talk.specs.Talk.{waiting, ended, done, failed, onward, isOver}
 use Rattle.talk.specs.Tunnel.{Behind}

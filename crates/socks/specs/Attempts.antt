@@ -12,9 +12,9 @@ use Rattle.protocol.specs.declared.Outcome.the-variants.{Waiting, Open, Failed}
 use Rattle.protocol.specs.Opening.{Opening, deliveryRoom}
 use Rattle.protocol.specs.Bound.{Endpoint, bytesIn}
 use Rattle.protocol.specs.Machine.{Machine, machine, decidedOn}
-use Rattle.session.specs.declared.Session.{Session}
-use Rattle.session.specs.declared.Prepared.{Prepared}
-use Rattle.session.specs.Calls.{start, deliver}
+use Rattle.client_session.specs.declared.Session.{Session}
+use Rattle.client_session.specs.declared.Prepared.{Prepared}
+use Rattle.client_session.specs.Calls.{start, deliver}
 use Rattle.protocol.specs.Bytes.{BytePieces}
 use Rattle.talk.specs.Tunnel.{Receiver, Delivery, lends, answerTo, after, joined}
 

@@ -12,10 +12,10 @@ use Rattle.protocol.specs.Bound.{addressOf}
 use Rattle.protocol.specs.Opening.{Opening, deliveryRoom}
 use Rattle.protocol.specs.Machine.{machine, used}
 use Rattle.protocol.specs.Grammar.{Replied, JustOne}
-use Rattle.session.specs.declared.Session.{Session}
-use Rattle.session.specs.Session.{outcome, bound}
-use Rattle.session.specs.declared.Prepared.{Prepared}
-use Rattle.session.specs.Calls.{start, deliver}
+use Rattle.client_session.specs.declared.Session.{Session}
+use Rattle.client_session.specs.Session.{outcome, bound}
+use Rattle.client_session.specs.declared.Prepared.{Prepared}
+use Rattle.client_session.specs.Calls.{start, deliver}
 use Rattle.talk.specs.Tunnel.{Receiver, Delivery, joined, Tunnel, tunnel}
 
 -- what two tunnels have alike: outcome with status, bound address, sent bytes, total count and rests. Not the attempts (F-11), in which lists with equal joined

@@ -8,9 +8,9 @@ use Rattle.protocol.specs.declared.Answer.the-variants.{Accepted, Refused}
 use Rattle.protocol.specs.Numbers.{number, status, answerNumber}
 use Rattle.protocol.specs.Opening.{V5}
 use Rattle.protocol.specs.Examples.{Case, host, over5, over4, Shown, fails, shown, computed, open5, signed5, open4, address, success}
-use Rattle.session.specs.Session.{outcome}
-use Rattle.session.specs.declared.Session.{Session}
-use Rattle.session.specs.Calls.{Call, prepare5, prepare4, start, deliver, end}
+use Rattle.client_session.specs.Session.{outcome}
+use Rattle.client_session.specs.declared.Session.{Session}
+use Rattle.client_session.specs.Calls.{Call, prepare5, prepare4, start, deliver, end}
 use Rattle.socks.specs.InTwo.{inTwo}
 use Rattle.socks.specs.Demand3.{receiver}
 use Rattle.talk.specs.Tunnel.{Delivery, after, tunnel}

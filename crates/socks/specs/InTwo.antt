@@ -13,10 +13,10 @@ use Rattle.protocol.specs.Numbers.{answerNumber}
 use Rattle.protocol.specs.Opening.{V5, V4, Condition, _↣_, Answers, refuse, check5, check4, Opening, opening5, opening4, firstReply}
 use Rattle.protocol.specs.Bound.{unbound, boundOf}
 use Rattle.protocol.specs.Machine.{machine}
-use Rattle.sending.specs.declared.Stage.the-variants.{Awaiting}
-use Rattle.session.specs.declared.Session.{Session}
-use Rattle.session.specs.declared.Prepared.{Prepared}
-use Rattle.session.specs.Calls.{Call, refusal, keptBy, emptySession, start}
+use Rattle.client_stages.specs.declared.due.Stage.the-variants.{Awaiting}
+use Rattle.client_session.specs.declared.Session.{Session}
+use Rattle.client_session.specs.declared.Prepared.{Prepared}
+use Rattle.client_session.specs.Calls.{Call, refusal, keptBy, emptySession, start}
 
 -- ---- the opening in one call
 

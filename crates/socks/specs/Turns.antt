@@ -14,12 +14,12 @@ use Rattle.protocol.specs.declared.SocksError.the-variants.{UnexpectedEof}
 use Rattle.protocol.specs.Numbers.{answerNumber, outcomeNumber}
 use Rattle.protocol.specs.Bound.{unbound, addressOf}
 use Rattle.protocol.specs.Opening.{Opening, startRoom, deliveryRoom, Condition, _↣_, Answers}
-use Rattle.bound_text.specs.Text.{boundText}
-use Rattle.bound_text.specs.Written.{unwritten, writeText}
-use Rattle.session.specs.declared.Session.{Session}
-use Rattle.session.specs.declared.Prepared.{Prepared}
-use Rattle.session.specs.Session.{outcome, bound, writeBound}
-use Rattle.session.specs.Calls.{Call, refusal, emptySession, start, deliver, end}
+use Rattle.address_format.specs.endpoint.Text.{boundText}
+use Rattle.address_format.specs.endpoint.Written.{unwritten, writeText}
+use Rattle.client_session.specs.declared.Session.{Session}
+use Rattle.client_session.specs.declared.Prepared.{Prepared}
+use Rattle.client_session.specs.Session.{outcome, bound, writeBound}
+use Rattle.client_session.specs.Calls.{Call, refusal, emptySession, start, deliver, end}
 use Rattle.socks.specs.Demand3.{tunnelOf}
 use Rattle.talk.specs.Tunnel.{Delivery, Behind}
 

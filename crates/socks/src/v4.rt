@@ -1,3 +1,3 @@
 // Preparing a session over SOCKS4 and SOCKS4A.
-pub use openings_v4::prepare;
-pub use openings_v4::prepare_chosen;
+pub use client_opening_v4::opening::prepare;
+pub use client_opening_v4::opening::prepare_chosen;

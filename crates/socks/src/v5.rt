@@ -1,3 +1,3 @@
 // Preparing a session over SOCKS5.
-pub use openings_v5::prepare;
-pub use openings_v5::prepare_chosen;
+pub use client_opening_v5::opening::prepare;
+pub use client_opening_v5::opening::prepare_chosen;

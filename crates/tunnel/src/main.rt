@@ -26,7 +26,7 @@ fn print_hex(s: &[u8])
     requires { ⌜ length (now s) ≤ 1024 ⌝ }
 {
     let mut text = [0u8; TEXT];
-    let n = numerals::put_hex(s, &mut text, 0);
+    let n = address_format::numerals::put_hex(s, &mut text, 0);
     io::write_all(STDOUT_FILENO, &text[..n]);
 }
 

@@ -55,17 +55,17 @@ use Rattle.protocol.proofs.Record.Laws as T′
 use Rattle.lookup.specs.declared.Lookup.{Lookup}
 use Rattle.lookup.specs.Chosen.{noRecord, noneFound, stepOf, chosenOf}
 use Rattle.lookup.proofs.Folds.{fold-step, fold-end}
-use Rattle.wire.proofs.Parts.{take-min}
+use Rattle.buffers.proofs.write.Parts.{take-min}
 use Rattle.lookup.proofs.Lookup as S
 use Rattle.lookup.proofs.Lookup.Laws as S′
 use Rattle.lookup.proofs.step as step
 use Rattle.lookup.proofs.step.Symbol as step-def
 use Rattle.lookup.proofs.step.Symbol.{name as #lookup·step}
 use Rattle.lookup.proofs.step.Met as step-thm
-use Rattle.wire.proofs.least as least
-use Rattle.wire.proofs.least.Symbol as least-def
-use Rattle.wire.proofs.least.Symbol.{name as #wire·least}
-use Rattle.wire.proofs.least.Met as least-thm
+use Rattle.buffers.proofs.write.least as least
+use Rattle.buffers.proofs.write.least.Symbol as least-def
+use Rattle.buffers.proofs.write.least.Symbol.{name as #wire·least}
+use Rattle.buffers.proofs.write.least.Met as least-thm
 use Rattle.lookup.proofs.none_found as none-found
 use Rattle.lookup.proofs.none_found.Symbol as none-found-def
 use Rattle.lookup.proofs.none_found.Symbol.{name as #lookup·none-found}
@@ -371,6 +371,6 @@ choose-spec 𝓤 H 𝓜 𝓖 𝓡 =
     entered 𝓤 H (tripleOf 𝓤 H (𝓖 .A) choose.signature (choose.spec 𝓤 H (𝓖 .A) (𝓜 .mem) (𝓡 .run)))
     (tables 𝓤 H 𝓜 𝓡 code.env .C) (tables 𝓤 H 𝓜 𝓡 code.env .Λ) #lookup·choose code.function (code.unfolded 𝓤 H 𝓜 𝓡)
     (choose-meets 𝓤 H (𝓖 .A) (givenOf 𝓤 H 𝓜 𝓖) (𝓜 .mem) (𝓡 .run) (tablesOf 𝓤 H 𝓜 (tables 𝓤 H 𝓜 𝓡 code.env))
-    (cited 𝓤 H (Least 𝓤 H (𝓖 .A) (𝓜 .mem) (𝓡 .run)) 𝓜 𝓡 code.env #wire·least least-def.routine code.calls-wire·least (least-thm.met 𝓤 H 𝓜 𝓖 𝓡))
+    (cited 𝓤 H (Least 𝓤 H (𝓖 .A) (𝓜 .mem) (𝓡 .run)) 𝓜 𝓡 code.env #wire·least least-def.routine code.calls-buffers·write·least (least-thm.met 𝓤 H 𝓜 𝓖 𝓡))
     (cited 𝓤 H (NoneFound 𝓤 H (𝓖 .A) (𝓜 .mem) (𝓡 .run)) 𝓜 𝓡 code.env #lookup·none-found none-found-def.routine code.calls-lookup·none-found (none-found-thm.met 𝓤 H 𝓜 𝓖 𝓡))
     (cited 𝓤 H (Step 𝓤 H (𝓖 .A) (𝓜 .mem) (𝓡 .run)) 𝓜 𝓡 code.env #lookup·step step-def.routine code.calls-lookup·step (step-thm.met 𝓤 H 𝓜 𝓖 𝓡)))

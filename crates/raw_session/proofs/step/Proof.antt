@@ -1,4 +1,4 @@
-use Rattle.session.specs.Session.{heldBytes}
+use Rattle.client_session.specs.Session.{heldBytes}
 use Rattle.raw_session.proofs.Laws.{step-as}
 use borrow.Author.Needs.{needs}
 use Rattle.raw_session.proofs.step.Statement.{statement}

@@ -1,0 +1,3 @@
+pub mod numerals
+pub mod groups
+pub mod endpoint

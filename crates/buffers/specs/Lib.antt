@@ -1,0 +1,2 @@
+pub mod write
+pub mod hold

@@ -1,9 +1,0 @@
-use Rattle.checks.proofs.Laws.{none-found}
-use Rattle.checks.proofs.finds_none.Statement.{statement}
-use Rattle.checks.proofs.finds_none.Tie as tie
-
-returns : tie.Need-returns
-returns c = none-found (c .before .args .chosen .found) (c .before .args .chosen .first)
-
-pub finds-none-spec : {M : Type 1} → statement M
-finds-none-spec = tie.close (tie.spec returns)

@@ -1,0 +1,5 @@
+// A piece, on plain values: replies read in turn, what is kept, what is answered.
+pub mod bound_address;
+pub mod delivery;
+pub mod piece;
+pub mod turns;

@@ -1,0 +1,3 @@
+pub mod host
+pub mod checks
+pub mod common

@@ -1,0 +1,3 @@
+// `v4::prepare`.
+pub mod kept;
+pub mod opening;

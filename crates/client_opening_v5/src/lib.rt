@@ -1,0 +1,3 @@
+// `v5::prepare`.
+pub mod kept;
+pub mod opening;

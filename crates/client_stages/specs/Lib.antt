@@ -1,0 +1,3 @@
+pub mod due
+pub mod start
+pub mod outcome

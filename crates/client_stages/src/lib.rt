@@ -1,0 +1,4 @@
+// The stages of a handshake: what a start sends, what a reply makes due, what an end of stream makes of them.
+pub mod due;
+pub mod outcome;
+pub mod start;

@@ -1,0 +1,2 @@
+pub mod decision
+pub mod destination

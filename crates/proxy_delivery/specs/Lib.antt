@@ -1,0 +1,3 @@
+pub mod turns
+pub mod piece
+pub mod delivery

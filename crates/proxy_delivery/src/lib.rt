@@ -1,0 +1,4 @@
+// A piece, on plain values: fields read in turn, what is kept, what is answered.
+pub mod delivery;
+pub mod piece;
+pub mod turns;
