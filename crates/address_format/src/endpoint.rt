@@ -20,6 +20,7 @@ use buffers::write::copy;
 use protocol::Address;
 use protocol::AddressKind;
 use protocol::Answer;
+use protocol::ENDPOINT_TEXT;
 use protocol::SocksError;
 
 // Whether the text was written, and how many bytes it has.
@@ -95,7 +96,7 @@ pub fn put_bound(bound: Address, text: &mut [u8]) -> Written
     let kind = bound.kind;
     let bytes = bound.bytes;
     let n = size_of(kind, bound.len);
-    let mut whole = [0u8; 261];
+    let mut whole = [0u8; ENDPOINT_TEXT];
     let len = put_text(kind, &bytes[..n], bound.port, &mut whole, 0);
     if text.len() < len {
         return Written {

@@ -18,6 +18,7 @@ use buffers::write::wide;
 use protocol::Address;
 use protocol::AddressKind;
 use protocol::Bound;
+use protocol::NAME_V5;
 use protocol::Reply;
 use reader::byte;
 use reader::port_at;
@@ -76,8 +77,8 @@ pub fn address(bound: Bound, held: &[u8]) -> Address
     ensures { λ r. ⌜ r ≡ addressOf (endpoint (kindOf (bound .kind) (now (held .entry))) (bound .port)) ⌝ }
 {
     let kind = bound.kind;
-    let n = least(held.len(), 255);
-    let mut bytes = [0u8; 255];
+    let n = least(held.len(), NAME_V5);
+    let mut bytes = [0u8; NAME_V5];
     copy(&mut bytes, 0, &held[..n]);
     Address {
         kind: kind,
@@ -91,7 +92,7 @@ pub fn address(bound: Bound, held: &[u8]) -> Address
 pub fn unbound() -> Address
     ensures { λ r. ⌜ r ≡ addressOf unbound ⌝ }
 {
-    let bytes = [0u8; 255];
+    let bytes = [0u8; NAME_V5];
     Address {
         kind: AddressKind::Ipv4,
         len: 4,

@@ -15,6 +15,9 @@ use client_stages::due::Requests;
 use client_stages::due::Stage;
 use protocol::Answer;
 use protocol::Bound;
+use protocol::DELIVERY_OUTPUT_V4;
+use protocol::HOLD;
+use protocol::OUTPUT_V5;
 use protocol::Reply;
 use protocol::SocksError;
 
@@ -23,10 +26,10 @@ fn room_of(reply: Reply) -> usize
     ensures { λ r. ⌜ r ≡ room reply ⌝ }
 {
     match reply {
-        Reply::NegotiationRes(method) => 778,
-        Reply::AuthenticationRes => 778,
-        Reply::ProxyRes => 778,
-        Reply::Response => 262,
+        Reply::NegotiationRes(method) => OUTPUT_V5,
+        Reply::AuthenticationRes => OUTPUT_V5,
+        Reply::ProxyRes => OUTPUT_V5,
+        Reply::Response => DELIVERY_OUTPUT_V4,
     }
 }
 
@@ -80,7 +83,7 @@ fn receive_awaiting(
     }
     Received {
         answer: Answer::Accepted,
-        taken: crate::piece::take(lengths, reply, hold, least(held, 261), piece, bound),
+        taken: crate::piece::take(lengths, reply, hold, least(held, HOLD), piece, bound),
     }
 }
 

@@ -1,6 +1,6 @@
 // What is checked before a session is opened, in its order.
 ghost use mathlib.Core.Path.{_≡_};
-ghost use mathlib.Core.Bool.{not, _&&_, _||_};
+ghost use mathlib.Core.Bool.{not, _&&_};
 ghost use mathlib.Core.List.{[]};
 ghost use lib.ListN.{length};
 ghost use lib.Dec.{ltb};
@@ -10,10 +10,13 @@ ghost use Rattle.protocol.specs.Opening.{refuse, isMissing, isIpv6, isNone, fir
 ghost use Rattle.client_opening.specs.checks.Checks.{checkShared, checkName, checkBy5, checkBy4};
 ghost use Rattle.lookup.specs.Chosen.{recordsOf};
 use crate::host::is_name;
+use buffers::fields::credentials_too_long;
 use lookup::Lookup;
 use protocol::AddressKind;
 use protocol::Answer;
 use protocol::Family;
+use protocol::NAME_V4;
+use protocol::NAME_V5;
 use protocol::Port;
 use protocol::SocksConfig;
 use protocol::SocksError;
@@ -31,12 +34,6 @@ fn lacks_port(port: Port) -> bool
         Port::Missing => true,
         Port::Given(_) => false,
     }
-}
-
-pub fn credentials_too_long(auth: bool, user: &[u8], password: &[u8]) -> bool
-    ensures { λ r. ⌜ r ≡ (auth && (ltb 255 (length (now (user .entry))) || ltb 255 (length (now (password .entry))))) ⌝ }
-{
-    auth && (255 < user.len() || 255 < password.len())
 }
 
 fn is_ipv6(kind: AddressKind) -> bool
@@ -144,7 +141,7 @@ pub fn check5(
     let named = check_name(
         is_name(kind),
         text,
-        255,
+        NAME_V5,
         config.local_dns,
         finds_none(chosen),
         Answer::Accepted,
@@ -169,7 +166,7 @@ pub fn check4(
     let named = check_name(
         is_name(kind),
         text,
-        1014,
+        NAME_V4,
         local_dns,
         finds_no_four(chosen),
         last,

@@ -17,7 +17,9 @@ use protocol::AddressKind;
 use protocol::Answer;
 use protocol::Bound;
 use protocol::Family;
+use protocol::HOLD;
 use protocol::Port;
+use protocol::REQUESTS;
 use protocol::Record;
 use protocol::SocksError;
 
@@ -88,13 +90,13 @@ pub fn refuse(error: SocksError) -> Begun
 }
 
 // What preparing returns: its session is built here alone.
-pub fn prepared(begun: Begun, bytes: [u8; 1024]) -> Prepared
+pub fn prepared(begun: Begun, bytes: [u8; REQUESTS]) -> Prepared
     ensures { λ r. ⌜ r ≡ preparedWith begun bytes ⌝ }
 {
     let answer = begun.answer;
     let stage = begun.stage;
     let lengths = begun.lengths;
-    let hold = [0u8; 261];
+    let hold = [0u8; HOLD];
     Prepared {
         answer: answer,
         session: Session {

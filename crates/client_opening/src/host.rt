@@ -12,6 +12,8 @@ ghost use Rattle.address_text.specs.ipv4.Answers.{addressText};
 ghost use Rattle.client_opening.specs.host.Lookups.{looksUp};
 use address_text::ipv4::AddressText;
 use protocol::AddressKind;
+use protocol::NAME_V4;
+use protocol::NAME_V5;
 use protocol::SocksConfig;
 
 // What a host stands for, read once for all that preparing does with it.
@@ -52,7 +54,7 @@ fn looks_up(local_dns: bool, host: &[u8], read: AddressText, most: usize) -> boo
 pub fn wanted5(config: SocksConfig, host: &[u8], read: AddressText) -> usize
     ensures { λ r. ⌜ (read ≡ addressText (destinationOf (strip (now (host .entry)))) → r ≡ cond (looksUp (config .«local_dns») (now (host .entry)) 255) 1 0) ⌝ }
 {
-    if looks_up(config.local_dns, host, read, 255) {
+    if looks_up(config.local_dns, host, read, NAME_V5) {
         1
     } else {
         0
@@ -63,7 +65,7 @@ pub fn wanted5(config: SocksConfig, host: &[u8], read: AddressText) -> usize
 pub fn wanted4(local_dns: bool, host: &[u8], read: AddressText) -> usize
     ensures { λ r. ⌜ (read ≡ addressText (destinationOf (strip (now (host .entry)))) → r ≡ cond (looksUp «local_dns» (now (host .entry)) 1014) 0xFFFFFFFFFFFFFFFF 0) ⌝ }
 {
-    if looks_up(local_dns, host, read, 1014) {
+    if looks_up(local_dns, host, read, NAME_V4) {
         usize::MAX
     } else {
         0

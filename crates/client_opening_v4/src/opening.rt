@@ -25,6 +25,7 @@ use lookup::choose;
 use protocol::AddressKind;
 use protocol::Answer;
 use protocol::Port;
+use protocol::REQUESTS;
 use protocol::Record;
 use requests::v4::announces_name;
 
@@ -81,7 +82,7 @@ fn prepare_read(
 ) -> Prepared
     ensures { λ r. ⌜ (read ≡ addressText (destinationOf (strip (now (host .entry)))) → r ≡ prepare4 (record { localDns = «local_dns»; host = now (host .entry); port = port; records = recordsOf chosen })) ⌝ }
 {
-    let mut bytes = [0u8; 1024];
+    let mut bytes = [0u8; REQUESTS];
     let begun = begin(&mut bytes, local_dns, host, read, port, chosen);
     client_opening::common::prepared(begun, bytes)
 }

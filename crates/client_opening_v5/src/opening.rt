@@ -22,6 +22,7 @@ use lookup::Lookup;
 use lookup::choose;
 use protocol::Answer;
 use protocol::Port;
+use protocol::REQUESTS;
 use protocol::Record;
 use protocol::SocksConfig;
 
@@ -66,7 +67,7 @@ fn prepare_read(
 ) -> Prepared
     ensures { λ r. ⌜ (read ≡ addressText (destinationOf (strip (now (host .entry)))) → r ≡ prepare5 (record { config = config; host = now (host .entry); port = port; user = now (user .entry); password = now (password .entry); records = recordsOf chosen })) ⌝ }
 {
-    let mut bytes = [0u8; 1024];
+    let mut bytes = [0u8; REQUESTS];
     let begun = begin(&mut bytes, config, host, read, port, user, password, chosen);
     client_opening::common::prepared(begun, bytes)
 }

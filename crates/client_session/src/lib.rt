@@ -20,6 +20,7 @@ use client_stages::outcome::is_open;
 use protocol::Address;
 use protocol::Answer;
 use protocol::Bound;
+use protocol::HOLD;
 use protocol::Outcome;
 use protocol::SocksError;
 use std::num::wrapping_add_u64;
@@ -32,7 +33,7 @@ pub struct Session {
     pub stage: Stage,
     pub started: bool,
     pub held: usize,
-    pub hold: [u8; 261],
+    pub hold: [u8; HOLD],
     pub bound: Bound,
     pub attempts: u64,
     pub requests: Requests,
@@ -176,7 +177,7 @@ impl Session {
         }
         let hold = self.hold;
         let kept = self.bound;
-        let n = least(self.held, 261);
+        let n = least(self.held, HOLD);
         client_delivery::bound_address::address(kept, &hold[..n])
     }
 

@@ -3,6 +3,8 @@ ghost use mathlib.Core.Path.{_≡_};
 ghost use Rattle.client_stages.specs.due.Due.{unlessGone, authenticationDue, proxyDue, dueAfterMethod, dueAfter, dueJudged, dueFrom, authenticationFirst, isUserPass};
 use buffers::write::least;
 use protocol::AuthMethod;
+use protocol::CONNECT;
+use protocol::REQUESTS;
 use protocol::Reply;
 use protocol::SocksError;
 use protocol::Verdict;
@@ -26,7 +28,7 @@ pub struct Lengths {
 // The requests of an opening as the bytes that go, one behind the other.
 pub struct Requests {
     pub lengths: Lengths,
-    pub bytes: [u8; 1024],
+    pub bytes: [u8; REQUESTS],
 }
 
 // The stage behind a reply, and how many bytes it makes due.
@@ -54,7 +56,7 @@ fn authentication_due(lengths: Lengths) -> usize
 fn proxy_due(lengths: Lengths) -> usize
     ensures { λ r. ⌜ r ≡ proxyDue lengths ⌝ }
 {
-    unless_gone(lengths.optimistic, least(lengths.proxy, 262))
+    unless_gone(lengths.optimistic, least(lengths.proxy, CONNECT))
 }
 
 fn due_after_method(lengths: Lengths, method: AuthMethod) -> Due

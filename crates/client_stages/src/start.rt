@@ -6,7 +6,11 @@ use crate::due::Lengths;
 use crate::due::Stage;
 use buffers::write::least;
 use protocol::Answer;
+use protocol::CONNECT;
+use protocol::CREDENTIALS;
+use protocol::OUTPUT_V5;
 use protocol::Reply;
+use protocol::START_OUTPUT_V4;
 use protocol::SocksError;
 
 // started: whether the session is started behind it. sent: how many bytes of its requests go.
@@ -21,10 +25,10 @@ fn room_of(reply: Reply) -> usize
     ensures { λ r. ⌜ r ≡ firstRoom reply ⌝ }
 {
     match reply {
-        Reply::NegotiationRes(method) => 778,
-        Reply::AuthenticationRes => 778,
-        Reply::ProxyRes => 778,
-        Reply::Response => 1024,
+        Reply::NegotiationRes(method) => OUTPUT_V5,
+        Reply::AuthenticationRes => OUTPUT_V5,
+        Reply::ProxyRes => OUTPUT_V5,
+        Reply::Response => START_OUTPUT_V4,
     }
 }
 
@@ -34,7 +38,7 @@ fn first_size5(lengths: Lengths) -> usize
 {
     let first = least(lengths.first, 3);
     if lengths.optimistic {
-        return first + least(lengths.authentication, 513) + least(lengths.proxy, 262);
+        return first + least(lengths.authentication, CREDENTIALS) + least(lengths.proxy, CONNECT);
     }
     first
 }
@@ -46,7 +50,7 @@ pub fn first_size(lengths: Lengths, reply: Reply) -> usize
         Reply::NegotiationRes(method) => first_size5(lengths),
         Reply::AuthenticationRes => first_size5(lengths),
         Reply::ProxyRes => first_size5(lengths),
-        Reply::Response => least(lengths.first, 1024),
+        Reply::Response => least(lengths.first, START_OUTPUT_V4),
     }
 }
 

@@ -1,4 +1,49 @@
-// The plain data that the definitions in specs/ and the code above share. There is no function.
+// The plain data and the sizes that the definitions in specs/ and the code above share. There is no function.
+
+// A session's hold: a reply that is not decided has at most so many bytes (01; `undecided-261`).
+pub const HOLD: usize = 261;
+
+// The output that a start and a delivery over v5 must lend (F-4; `startRoom`, `deliveryRoom`).
+pub const OUTPUT_V5: usize = 778;
+
+// The output that a start over v4 must lend (01; `startRoom`).
+pub const START_OUTPUT_V4: usize = 1024;
+
+// The output that a delivery over v4 must lend (01; `deliveryRoom`).
+pub const DELIVERY_OUTPUT_V4: usize = 262;
+
+// The output that each call of the proxy's end must lend (F-3).
+pub const PROXY_OUTPUT: usize = 262;
+
+// The output that each call on a route must lend, for each of its proxies (F-5; `roomFor`).
+pub const ROUTE_OUTPUT: usize = 1024;
+
+// How long a connect request and credentials may be (F-4; `Limits`).
+pub const CONNECT: usize = 262;
+
+pub const CREDENTIALS: usize = 513;
+
+// What a session keeps of its requests: those of v5 have at most 778 bytes, the one of v4 1,024 (`Limits`).
+pub const REQUESTS: usize = 1024;
+
+// How long a name may be, over v5 and over v4 (01; `conditions5`, `conditions4`).
+pub const NAME_V5: usize = 255;
+
+pub const NAME_V4: usize = 1014;
+
+// How long a user or a password may be (01; `conditions5`), and a user id over v4 (F-3).
+pub const CREDENTIAL: usize = 255;
+
+pub const USER_ID: usize = 255;
+
+// How many proxies a route may have (F-5; `conditions`).
+pub const PROXIES: usize = 8;
+
+// What the proxies of a route keep of their requests.
+pub const ROUTE_REQUESTS: usize = 8192;
+
+// The longest text of an address and port: a name of 255 bytes, a colon and five digits (F-1; `boundText`).
+pub const ENDPOINT_TEXT: usize = 261;
 
 // The version that a proxy speaks.
 pub enum Version {
@@ -47,7 +92,7 @@ pub enum AddressKind {
 pub struct Address {
     pub kind: AddressKind,
     pub len: u8,
-    pub bytes: [u8; 255],
+    pub bytes: [u8; NAME_V5],
     pub port: u16,
 }
 

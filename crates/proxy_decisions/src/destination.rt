@@ -20,6 +20,7 @@ use buffers::write::least;
 use buffers::write::wide;
 use protocol::AddressKind;
 use protocol::Bound;
+use protocol::NAME_V4;
 use proxy_spec::Field;
 use proxy_spec::Ports;
 use reader::byte;
@@ -29,7 +30,7 @@ use reader::port_at;
 pub struct Target {
     pub kind: AddressKind,
     pub len: usize,
-    pub bytes: [u8; 1014],
+    pub bytes: [u8; NAME_V4],
     pub port: u16,
 }
 
@@ -122,8 +123,8 @@ pub fn as_target(bound: Bound, held: &[u8]) -> Target
     ensures { λ r. ⌜ r ≡ targetAs (endpoint (kindOf (bound .kind) (now (held .entry))) (bound .port)) ⌝ }
 {
     let kind = bound.kind;
-    let n = least(held.len(), 1014);
-    let mut bytes = [0u8; 1014];
+    let n = least(held.len(), NAME_V4);
+    let mut bytes = [0u8; NAME_V4];
     copy(&mut bytes, 0, &held[..n]);
     Target {
         kind: kind,

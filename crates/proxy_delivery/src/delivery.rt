@@ -8,6 +8,8 @@ use crate::piece::take;
 use buffers::write::least;
 use protocol::Answer;
 use protocol::Bound;
+use protocol::NAME_V4;
+use protocol::PROXY_OUTPUT;
 use protocol::SocksError;
 use proxy_spec::Field;
 use proxy_spec::Stage;
@@ -50,7 +52,7 @@ fn receive_awaiting(
     ensures { λ r. ⌜ Receives (Stage.Awaiting field) held (record { authenticates = authenticates; user = now (user .entry); password = now (password .entry) }) (now (hold .entry)) (now (piece .entry)) bound (now (out .entry)) r (now (hold .exit)) (now (out .exit)) ⌝ }
 {
     let stage = Stage::Awaiting(field);
-    if out.len() < 262 {
+    if out.len() < PROXY_OUTPUT {
         return unchanged(Answer::Refused(SocksError::ShortOutput), stage, held, bound);
     }
     if piece.len() == 0 {
@@ -64,7 +66,7 @@ fn receive_awaiting(
             user,
             password,
             hold,
-            least(held, 1014),
+            least(held, NAME_V4),
             piece,
             bound,
             out,

@@ -7,6 +7,7 @@ ghost use Rattle.proxy_replies.specs.stages.Answers.{unanswered, answerA
 use crate::write::put_answer;
 use crate::write::status_to;
 use protocol::Answer;
+use protocol::PROXY_OUTPUT;
 use protocol::Record;
 use protocol::SocksError;
 use protocol::Version;
@@ -119,7 +120,7 @@ fn stage_after(version: Version, status: u8) -> Stage
 fn answer_asked(version: Version, status: u8, bound: Record, port: u16, out: &mut [u8]) -> Said
     ensures { λ r. ⌜ Answers (answerAsked version status (endpointOf bound port) (now (out .entry))) r (now (out .exit)) ⌝ }
 {
-    if out.len() < 262 {
+    if out.len() < PROXY_OUTPUT {
         return unanswered(SocksError::ShortOutput, Stage::Asked(version));
     }
     Said {

@@ -15,7 +15,9 @@ ghost use Rattle.proxy_requests.specs.Runs.{runOf, readWithin};
 use buffers::write::least;
 use buffers::write::wide;
 use protocol::Decision;
+use protocol::NAME_V4;
 use protocol::SocksError;
+use protocol::USER_ID;
 use protocol::Verdict;
 use proxy_spec::Field;
 use reader::byte;
@@ -181,8 +183,8 @@ fn read_field(field: Field, held: &[u8], piece: &[u8]) -> Decision
         Field::Head => read_head(held, piece),
         Field::Address(command, kind) => read_address(kind, held, piece),
         Field::Request => sized(7, held.len() + piece.len()),
-        Field::UserId(ports) => read_text(held, piece, 0, 255),
-        Field::Name(ports) => read_text(held, piece, 1, 1014),
+        Field::UserId(ports) => read_text(held, piece, 0, USER_ID),
+        Field::Name(ports) => read_text(held, piece, 1, NAME_V4),
     }
 }
 

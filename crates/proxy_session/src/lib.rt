@@ -7,13 +7,15 @@ ghost use Rattle.proxy_decisions.specs.destination.Last.{targetAs};
 ghost use Rattle.proxy_spec.specs.End.{endpointOf};
 ghost use Rattle.proxy_session.specs.Server.{credentialOf, fresh, outcome, destination};
 ghost use Rattle.proxy_session.specs.Calls.{setUp, deliver, Delivers, answer, Answers, end, endedBy};
+use buffers::fields::credentials_too_long;
 use buffers::write::copy;
 use buffers::write::least;
 use buffers::write::wide;
-use client_opening::checks::credentials_too_long;
 use protocol::AddressKind;
 use protocol::Answer;
 use protocol::Bound;
+use protocol::CREDENTIAL;
+use protocol::NAME_V4;
 use protocol::Record;
 use protocol::SocksError;
 use proxy_decisions::destination::Target;
@@ -27,7 +29,7 @@ use proxy_spec::Stage;
 // A user or a password.
 pub struct Credential {
     pub len: u8,
-    pub bytes: [u8; 255],
+    pub bytes: [u8; CREDENTIAL],
 }
 
 // What matters when. Awaiting: the first `held` bytes of `hold`, which are the undecided rest of a field. Asked and open: the first `held` bytes
@@ -35,7 +37,7 @@ pub struct Credential {
 pub struct Server {
     pub stage: Stage,
     pub held: usize,
-    pub hold: [u8; 1014],
+    pub hold: [u8; NAME_V4],
     pub bound: Bound,
     pub authenticates: bool,
     pub user: Credential,
@@ -70,7 +72,7 @@ fn credential_of(text: &[u8]) -> Credential
     requires { ⌜ length (now text) ≤ 255 ⌝ }
     ensures { λ r. ⌜ r ≡ credentialOf (now (text .entry)) ⌝ }
 {
-    let mut bytes = [0u8; 255];
+    let mut bytes = [0u8; CREDENTIAL];
     copy(&mut bytes, 0, text);
     Credential {
         len: (text.len() % 256) as u8,
@@ -85,7 +87,7 @@ fn fresh(stage: Stage, authenticates: bool, user: Credential, password: Credenti
     Server {
         stage: stage,
         held: 0,
-        hold: [0u8; 1014],
+        hold: [0u8; NAME_V4],
         bound: Bound {
             kind: AddressKind::Ipv4,
             port: 0,
@@ -132,7 +134,7 @@ fn no_target() -> Target
     Target {
         kind: AddressKind::Ipv4,
         len: 4,
-        bytes: [0u8; 1014],
+        bytes: [0u8; NAME_V4],
         port: 0,
     }
 }
@@ -255,7 +257,7 @@ impl Server {
         if !has_destination(stage) {
             return no_target();
         }
-        let n = least(self.held, 1014);
+        let n = least(self.held, NAME_V4);
         as_target(bound, &hold[..n])
     }
 }

@@ -11,6 +11,9 @@ use client_stages::due::Lengths;
 use client_stages::due::Stage;
 use client_stages::start::first_size;
 use protocol::Bound;
+use protocol::PROXIES;
+use protocol::REQUESTS;
+use protocol::ROUTE_OUTPUT;
 use protocol::Reply;
 use std::num::wrapping_add_u64;
 
@@ -42,7 +45,7 @@ fn send(bytes: &[u8], index: usize, from: usize, n: usize, out: &mut [u8], at: u
     requires { ⌜ (length (now bytes) ≡ 8192) × ((index ≤ 7) × ((from + n ≤ 1024) × (at + n ≤ length (now out)))) ⌝ }
     ensures { λ r. ⌜ Wrote (now (out .entry)) at (part (bytesAt (now (bytes .entry)) index) from n) r (now (out .exit)) ⌝ }
 {
-    let start = 1024 * index + from;
+    let start = REQUESTS * index + from;
     let end = start + n;
     copy(out, at, &bytes[start..end])
 }
@@ -59,7 +62,7 @@ fn goes_on(stage: Stage, behind: usize) -> bool
 }
 
 // The next proxy is begun: what goes first is sent, and it holds nothing.
-pub fn begin(hops: [Hop; 8], spot: Spot, bytes: &[u8], out: &mut [u8]) -> Spot
+pub fn begin(hops: [Hop; PROXIES], spot: Spot, bytes: &[u8], out: &mut [u8]) -> Spot
     requires { ⌜ (0 < spot .behind) × ((spot .behind ≤ 8) × ((length (now bytes) ≡ 8192) × (spot .sent + 1024 ≤ length (now out)))) ⌝ }
     ensures { λ r. ⌜ r ≡ begunSpot hops spot (r .sent) ⌝ }
     ensures { λ r. ⌜ Wrote (now (out .entry)) (spot .sent) (goesAt hops (now (bytes .entry)) (r .behind)) (r .sent) (now (out .exit)) ⌝ }
@@ -83,7 +86,7 @@ pub fn begin(hops: [Hop; 8], spot: Spot, bytes: &[u8], out: &mut [u8]) -> Spot
 
 // A piece for the proxy that is spoken to alone: its own delivery, lent 1,024 bytes.
 fn hand(
-    hops: [Hop; 8],
+    hops: [Hop; PROXIES],
     spot: Spot,
     bytes: &[u8],
     hold: &mut [u8],
@@ -99,7 +102,16 @@ fn hand(
     let lengths = hop.lengths;
     let stage = spot.stage;
     let bound = spot.bound;
-    let received = receive(stage, true, spot.held, lengths, hold, piece, 1024, bound);
+    let received = receive(
+        stage,
+        true,
+        spot.held,
+        lengths,
+        hold,
+        piece,
+        ROUTE_OUTPUT,
+        bound,
+    );
     let taken = received.taken;
     let next = taken.stage;
     let after = taken.bound;
@@ -125,7 +137,7 @@ struct Stepped {
 }
 
 fn step(
-    hops: [Hop; 8],
+    hops: [Hop; PROXIES],
     spot: Spot,
     bytes: &[u8],
     hold: &mut [u8],
@@ -155,7 +167,7 @@ fn step(
 
 // A piece for the proxy that is spoken to, and what that leaves for those behind it.
 pub fn relay(
-    hops: [Hop; 8],
+    hops: [Hop; PROXIES],
     spot: Spot,
     bytes: &[u8],
     hold: &mut [u8],

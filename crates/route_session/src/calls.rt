@@ -17,7 +17,11 @@ use client_stages::outcome::is_open;
 use protocol::Address;
 use protocol::Answer;
 use protocol::Bound;
+use protocol::HOLD;
 use protocol::Outcome;
+use protocol::PROXIES;
+use protocol::ROUTE_OUTPUT;
+use protocol::ROUTE_REQUESTS;
 use protocol::SocksError;
 use route_delivery::Hop;
 use route_delivery::Spot;
@@ -28,13 +32,13 @@ use route_delivery::relay;
 pub struct Route {
     pub stage: Stage,
     pub held: usize,
-    pub hold: [u8; 261],
+    pub hold: [u8; HOLD],
     pub bound: Bound,
     pub attempts: u64,
     pub count: usize,
     pub behind: usize,
-    pub hops: [Hop; 8],
-    pub bytes: [u8; 8192],
+    pub hops: [Hop; PROXIES],
+    pub bytes: [u8; ROUTE_REQUESTS],
 }
 
 pub struct Opened {
@@ -94,7 +98,7 @@ fn untaken(error: SocksError, spot: Spot) -> Taken
 
 // A piece for a route of so many proxies that stands at a spot.
 fn take(
-    hops: [Hop; 8],
+    hops: [Hop; PROXIES],
     count: usize,
     spot: Spot,
     bytes: &[u8],
@@ -110,7 +114,7 @@ fn take(
         return untaken(SocksError::Settled, spot);
     }
     let last = last_of(count);
-    if out.len() < 1024 * (last + 1) {
+    if out.len() < ROUTE_OUTPUT * (last + 1) {
         return untaken(SocksError::ShortOutput, spot);
     }
     let bound = spot.bound;
@@ -234,7 +238,7 @@ impl Route {
         }
         let hold = self.hold;
         let kept = self.bound;
-        let n = least(self.held, 261);
+        let n = least(self.held, HOLD);
         address(kept, &hold[..n])
     }
 

@@ -20,14 +20,18 @@ use protocol::AddressKind;
 use protocol::Answer;
 use protocol::AuthMethod;
 use protocol::Bound;
+use protocol::HOLD;
+use protocol::PROXIES;
 use protocol::Port;
+use protocol::ROUTE_OUTPUT;
+use protocol::ROUTE_REQUESTS;
 use protocol::Reply;
 use protocol::SocksError;
 use route_delivery::Hop;
 use route_delivery::Spot;
 use route_delivery::begin;
 
-fn no_hops() -> [Hop; 8]
+fn no_hops() -> [Hop; PROXIES]
     ensures { λ r. ⌜ r ≡ replicate 8 noHop ⌝ }
 {
     let none = Hop {
@@ -39,7 +43,7 @@ fn no_hops() -> [Hop; 8]
             proxy: 0,
         },
     };
-    [none; 8]
+    [none; PROXIES]
 }
 
 // A route that was refused is empty, and has failed with that error.
@@ -52,7 +56,7 @@ fn refuse(error: SocksError) -> Opened
         route: Route {
             stage: Stage::Failed(error),
             held: 0,
-            hold: [0u8; 261],
+            hold: [0u8; HOLD],
             bound: Bound {
                 kind: AddressKind::Ipv4,
                 port: 0,
@@ -61,7 +65,7 @@ fn refuse(error: SocksError) -> Opened
             count: 0,
             behind: 0,
             hops: no_hops(),
-            bytes: [0u8; 8192],
+            bytes: [0u8; ROUTE_REQUESTS],
         },
     }
 }
@@ -73,17 +77,17 @@ fn size_answer(count: usize, room: usize) -> Answer
     if count == 0 {
         return Answer::Refused(SocksError::RouteLength);
     }
-    if 8 < count {
+    if PROXIES < count {
         return Answer::Refused(SocksError::RouteLength);
     }
-    if room < 1024 * count {
+    if room < ROUTE_OUTPUT * count {
         return Answer::Refused(SocksError::ShortOutput);
     }
     Answer::Accepted
 }
 
 // All openings are prepared: the first proxy is begun.
-fn begin_first(hops: [Hop; 8], count: usize, bytes: &[u8], out: &mut [u8]) -> Spot
+fn begin_first(hops: [Hop; PROXIES], count: usize, bytes: &[u8], out: &mut [u8]) -> Spot
     requires { ⌜ (0 < count) × ((count ≤ 8) × ((length (now bytes) ≡ 8192) × (1024 ≤ length (now out)))) ⌝ }
     ensures { λ r. ⌜ r ≡ begunSpot hops (freshSpot count) (r .sent) ⌝ }
     ensures { λ r. ⌜ Wrote (now (out .entry)) 0 (goesAt hops (now (bytes .entry)) (r .behind)) (r .sent) (now (out .exit)) ⌝ }
@@ -106,7 +110,7 @@ fn begin_first(hops: [Hop; 8], count: usize, bytes: &[u8], out: &mut [u8]) -> Sp
     )
 }
 
-fn begun(hops: [Hop; 8], count: usize, bytes: [u8; 8192], spot: Spot) -> Opened
+fn begun(hops: [Hop; PROXIES], count: usize, bytes: [u8; ROUTE_REQUESTS], spot: Spot) -> Opened
     ensures { λ r. ⌜ r ≡ openedAt hops count bytes spot ⌝ }
 {
     let stage = spot.stage;
@@ -117,7 +121,7 @@ fn begun(hops: [Hop; 8], count: usize, bytes: [u8; 8192], spot: Spot) -> Opened
         route: Route {
             stage: stage,
             held: 0,
-            hold: [0u8; 261],
+            hold: [0u8; HOLD],
             bound: bound,
             attempts: 0,
             count: count,
@@ -130,7 +134,7 @@ fn begun(hops: [Hop; 8], count: usize, bytes: [u8; 8192], spot: Spot) -> Opened
 
 // One to eight proxies with enough output.
 fn open_sized(
-    proxies: [Proxy; 8],
+    proxies: [Proxy; PROXIES],
     count: usize,
     text: &[u8],
     host: &[u8],
@@ -140,7 +144,7 @@ fn open_sized(
     requires { ⌜ (0 < count) × ((count ≤ 8) × (1024 ≤ length (now out))) ⌝ }
     ensures { λ r. ⌜ Opens (openBy (checkInTurn (askedOf (proxiesOf (now (text .entry)) (take count proxies)) (now (host .entry)) port)) (map openingFor (askedOf (proxiesOf (now (text .entry)) (take count proxies)) (now (host .entry)) port)) (now (out .entry))) r (now (out .exit)) ⌝ }
 {
-    let mut bytes = [0u8; 8192];
+    let mut bytes = [0u8; ROUTE_REQUESTS];
     let planned = plan(proxies, 0, count, text, host, port, no_hops(), &mut bytes);
     let answer = planned.answer;
     let hops = planned.hops;
@@ -154,7 +158,7 @@ fn open_sized(
 // whose own host and port are not looked at. All openings are checked before any byte goes, without local lookup. Refused if there is no
 // proxy or there are more than eight, or the output has less than 1,024 bytes for each, or an opening is.
 pub fn open(
-    proxies: [Proxy; 8],
+    proxies: [Proxy; PROXIES],
     count: usize,
     text: &[u8],
     host: &[u8],

@@ -13,7 +13,9 @@ use client_session::Session;
 use client_stages::due::Stage;
 use lookup::none_found;
 use protocol::Answer;
+use protocol::PROXIES;
 use protocol::Port;
+use protocol::REQUESTS;
 use protocol::Reply;
 use protocol::SocksConfig;
 use protocol::Version;
@@ -79,7 +81,7 @@ fn prepare_for(proxy: Proxy, text: &[u8], host: &[u8], port: Port) -> Prepared
 
 // A proxy is asked for the next one, the last for the destination.
 fn prepare_at(
-    proxies: [Proxy; 8],
+    proxies: [Proxy; PROXIES],
     at: usize,
     count: usize,
     text: &[u8],
@@ -110,7 +112,12 @@ fn first_in(stage: Stage) -> Reply
 }
 
 // Keeps what a prepared session has, at an index.
-fn keep(mut hops: [Hop; 8], index: usize, session: Session, bytes: &mut [u8]) -> [Hop; 8]
+fn keep(
+    mut hops: [Hop; PROXIES],
+    index: usize,
+    session: Session,
+    bytes: &mut [u8],
+) -> [Hop; PROXIES]
     requires { ⌜ (index ≤ 7) × (length (now bytes) ≡ 8192) ⌝ }
     ensures { λ r. ⌜ (r ≡ set hops index (keptHop session)) × ((now (bytes .exit) ≡ overwrite (now (bytes .entry)) (1024 * index) (session .requests .bytes)) × (length (session .requests .bytes) ≡ 1024)) ⌝ }
 {
@@ -118,7 +125,7 @@ fn keep(mut hops: [Hop; 8], index: usize, session: Session, bytes: &mut [u8]) ->
     let requests = session.requests;
     let lengths = requests.lengths;
     let kept = requests.bytes;
-    copy(bytes, 1024 * index, &kept);
+    copy(bytes, REQUESTS * index, &kept);
     hops[index] = Hop {
         first: first_in(stage),
         lengths: lengths,
@@ -129,7 +136,7 @@ fn keep(mut hops: [Hop; 8], index: usize, session: Session, bytes: &mut [u8]) ->
 // What preparing all from a proxy on answers, and what is then kept.
 pub struct Planned {
     pub answer: Answer,
-    pub hops: [Hop; 8],
+    pub hops: [Hop; PROXIES],
 }
 
 // Preparing ends with an opening that is refused, and with the last.
@@ -144,13 +151,13 @@ fn ends(answer: Answer, next: usize, count: usize) -> bool
 
 // All openings from a proxy on, up to the first that is refused.
 pub fn plan(
-    proxies: [Proxy; 8],
+    proxies: [Proxy; PROXIES],
     at: usize,
     count: usize,
     text: &[u8],
     host: &[u8],
     port: Port,
-    hops: [Hop; 8],
+    hops: [Hop; PROXIES],
     bytes: &mut [u8],
 ) -> Planned
     requires { ⌜ (at < count) × ((count ≤ 8) × (length (now bytes) ≡ 8192)) ⌝ }

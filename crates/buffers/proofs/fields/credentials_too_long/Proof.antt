@@ -1,7 +1,7 @@
 use borrow.Author.Tests.{lt-ltb, le-ltb}
 use borrow.Author.Needs.{needs}
-use Rattle.client_opening.proofs.checks.credentials_too_long.Statement.{statement}
-use Rattle.client_opening.proofs.checks.credentials_too_long.Tie as tie
+use Rattle.buffers.proofs.fields.credentials_too_long.Statement.{statement}
+use Rattle.buffers.proofs.fields.credentials_too_long.Tie as tie
 
 returns : tie.Need-returns
 returns c = rw (c .before .if1 .taken, lt-ltb _ _ (c .if2 .taken))
