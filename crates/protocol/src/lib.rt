@@ -126,6 +126,7 @@ pub enum SocksError {
     RouteLength,
     OutOfOrder,
     AnnouncesName,
+    ShortStream,
 }
 
 // What a call answers beside its values.
