@@ -3,7 +3,6 @@ use input::places::NOWHERE;
 use input::places::byte_at;
 use input::places::number_at;
 use input::places::past;
-use input::places::store;
 use input::places::text_end;
 use lookup::Lookup;
 use protocol::Family;
@@ -113,7 +112,7 @@ fn address_at(s: &[u8], at: usize) -> [u8; 16] {
     address
 }
 
-pub fn record_at(s: &[u8], at: usize) -> Record {
+fn record_at(s: &[u8], at: usize) -> Record {
     Record {
         family: family_of(byte_at(s, at)),
         address: address_at(s, past(s, at, 1)),
@@ -252,6 +251,22 @@ fn calls_end(s: &[u8], at: usize, kind: u8) -> usize {
         end = call_end(s, end, kind);
     }
     end
+}
+
+// What the caller's answer says.
+pub struct Said {
+    pub status: u8,
+    pub bound: Record,
+    pub port: u16,
+}
+
+// The caller's answer that a call is.
+pub fn said_at(s: &[u8], at: usize) -> Said {
+    Said {
+        status: byte_at(s, past(s, at, 3)),
+        bound: record_at(s, past(s, at, 4)),
+        port: number_at(s, past(s, at, 21)),
+    }
 }
 
 // How much of an output or a buffer the number at a place lends.

@@ -20,9 +20,9 @@ use tally::KEPT;
 // The largest frame.
 const FRAME: usize = 65537;
 
-const INPUT: usize = 262144;
+const INPUT: usize = 131072;
 
-const TEXT: usize = 65536;
+const TEXT: usize = 16384;
 
 // A case that is whole.
 fn run_case(s: &[u8], writer: Writer, kept: &mut [u8], text: &mut [u8]) -> Writer {

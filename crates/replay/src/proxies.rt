@@ -3,6 +3,8 @@ use crate::tally;
 use crate::tally::Call;
 use crate::tally::Tally;
 use crate::tally::call_of;
+use cases::Said;
+use cases::said_at;
 use input::places::byte_at;
 use input::places::number_at;
 use input::places::part;
@@ -62,12 +64,10 @@ fn deliver(server: Server, piece: &[u8], out: &mut [u8]) -> Turn {
     }
 }
 
-// The caller's answer at a place.
-fn answer(server: Server, s: &[u8], at: usize, out: &mut [u8]) -> Turn {
-    let status = byte_at(s, past(s, at, 3));
-    let bound = cases::record_at(s, past(s, at, 4));
-    let port = number_at(s, past(s, at, 21));
-    let answered = server.answer(status, bound, port, out);
+// The caller's answer.
+fn answer(server: Server, said: Said, out: &mut [u8]) -> Turn {
+    let bound = said.bound;
+    let answered = server.answer(said.status, bound, said.port, out);
     let answer = answered.answer;
     let next = answered.server;
     Turn {
@@ -93,7 +93,7 @@ fn take_call(server: Server, s: &[u8], at: usize, out: &mut [u8]) -> Turn {
         return deliver(server, text_at(s, past(s, at, 3)), out);
     }
     if call == b'a' {
-        return answer(server, s, at, out);
+        return answer(server, said_at(s, at), out);
     }
     end(server)
 }
@@ -151,8 +151,8 @@ fn put_destination(start: Writer, text: &mut [u8], target: Target) -> Writer {
     put_number(writer, text, target.port as u64)
 }
 
-fn finish(server: Server, target: Target, tally: Tally, kept: &[u8], text: &mut [u8]) -> Writer {
-    let line = tally::finish(tally, state_of(server.outcome()), kept, text);
+fn finish(state: State, target: Target, tally: Tally, kept: &[u8], text: &mut [u8]) -> Writer {
+    let line = tally::finish(tally, state, kept, text);
     let writer = put_byte(line, text, b' ');
     put_destination(writer, text, target)
 }
@@ -164,16 +164,14 @@ fn next_call(before: Turn, s: &[u8], at: usize, kept: &mut [u8]) -> Turn {
 }
 
 fn take_calls(
-    first: Turn,
-    begun: Tally,
+    mut turn: Turn,
+    mut tally: Tally,
     s: &[u8],
     from: usize,
     kept: &mut [u8],
     text: &mut [u8],
 ) -> Writer {
-    let mut turn = first;
     let mut target = no_target();
-    let mut tally = begun;
     let mut at = past(s, from, 2);
     for i in 0..number_at(s, from) {
         turn = next_call(turn, s, at, kept);
@@ -181,7 +179,8 @@ fn take_calls(
         tally = tally::take(tally, turn.call, s, at, kept, text);
         at = cases::call_end(s, at, b'P');
     }
-    finish(turn.server, target, tally, kept, text)
+    let last = turn.server;
+    finish(state_of(last.outcome()), target, tally, kept, text)
 }
 
 pub fn run(s: &[u8], writer: Writer, kept: &mut [u8], text: &mut [u8]) -> Writer {
