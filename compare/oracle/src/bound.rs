@@ -45,7 +45,7 @@ fn kind(bound: SocketAddr) -> (&'static str, bool) {
     let text = ip.to_string();
     match (ip.segments(), text.contains('.')) {
         ([0, 0, 0, 0, 0, 0xFFFF, ..], true) => ("IPv4-mapped, with a dotted tail: set aside and read back", true),
-        (_, true) => ("others with a dotted tail", true),
+        ([0, 0, 0, 0, 0, 0xFFFF, ..], false) | (_, true) => panic!("another rule of Display: {text}"),
         ([0, 0, 0, 0, 0, 0, ..], _) => ("IPv4-compatible", false),
         _ if text.contains("::") => ("IPv6, shortened", false),
         _ => ("IPv6, whole", false),

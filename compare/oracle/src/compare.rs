@@ -289,8 +289,9 @@ fn damaged(program: &str, kind: u8, seed: u64, count: u64) -> usize {
     let read = frames.iter().filter(|frame| Case::read(&frame[2..]).is_some()).count();
     let mut lines = run(program, frames.concat()).into_iter();
     let mut differs = |frame: &&Vec<u8>| lines.next().unwrap_or_default() != model::answers(frame).trim_end();
-    let wrong =
-        frames.iter().filter(|frame| differs(frame)).inspect(|frame| println!("difference: {}", hex(frame))).count();
+    let wrong: Vec<_> = frames.iter().filter(&mut differs).collect();
+    wrong.iter().take(SHOWN).for_each(|frame| println!("difference: {}", hex(frame)));
+    let wrong = wrong.len();
     println!("damaged frames: {}, {read} of them a case still, {wrong} answered wrongly", frames.len());
     wrong
 }

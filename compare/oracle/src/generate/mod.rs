@@ -4,7 +4,7 @@ use crate::draw::Random;
 
 mod proxy;
 mod route;
-mod session;
+pub mod session;
 mod texts;
 
 // Enough and too little.
@@ -30,15 +30,6 @@ pub fn in_order(kind: u8, r: &mut Random, number: u64) -> Case {
         b'R' => route::case(r).case(),
         _ => proxy::case(r).case(),
     }
-}
-
-// Sessions that ask for no attempts, and for no text either: the kept list's first.
-pub fn textual(r: &mut Random) -> Case {
-    session::textual(r).case()
-}
-
-pub fn plain(r: &mut Random) -> Case {
-    session::plain(r).case()
 }
 
 // ---- calls in odd orders

@@ -399,8 +399,7 @@ fn bounds(list: &mut Kept) {
 
 // ---- output and turns
 
-// 1 below 262 bytes, for deliveries and answers; above 2,048 is as much as that. Nothing is used then, and no rest is
-// told.
+// 1 below 262 bytes, for deliveries and answers. Nothing is used then, and no rest is told.
 fn outputs(list: &mut Kept) {
     let lents = [0, 261, 262, 65535, 1, 263, 2047, 2048, 2049];
     for (stream, success, n) in [(good5(), 0, 9), (good4(), 90, 4)] {

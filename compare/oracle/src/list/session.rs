@@ -717,10 +717,10 @@ pub fn add(list: &mut Kept) {
     let fill = CASES.saturating_sub(list.cases.len() - first);
     // beside the kind and the calls' letters
     let small = |case: &Case| case.bytes().len() - 1 - case.calls.len() < SMALL;
-    list.random(fill, generate::plain, small);
+    list.random(fill, |r| generate::session::plain(r).case(), small);
     list.parts(&[bound_pieces, not_open, bound_six, bound_four, bound_names_told]);
     let asks = |case: &Case, letter: u8| case.calls.iter().any(|call| call.letter() == letter);
-    list.random(ASKING, generate::textual, |case| small(case) && asks(case, b'b'));
+    list.random(ASKING, |r| generate::session::textual(r).case(), |case| small(case) && asks(case, b'b'));
     list.parts(&[counted_pieces, counted_noise, counted_failures, counted_refusals, counted_names, told_and_counted]);
     list.random(COUNTING, |r| generate::in_order(b'S', r, 0), |case| small(case) && asks(case, b't'));
 }
