@@ -8,7 +8,7 @@ ghost use Rattle.protocol.specs.Host.{bracketed};
 ghost use Rattle.protocol.specs.Requests.{kindOf};
 ghost use Rattle.address_format.specs.groups.Groups.{splitBy, groupsOf, groupsText};
 ghost use Rattle.address_format.specs.endpoint.Text.{hostText, textOf, boundText};
-ghost use Rattle.address_format.specs.endpoint.Written.{writeText, Writes};
+ghost use Rattle.address_format.specs.endpoint.Written.{writeText, TextResult};
 ghost use Rattle.protocol.specs.declared.Answer.the-variants as Answer;
 use crate::groups::groups_of;
 use crate::groups::put_groups;
@@ -90,7 +90,7 @@ fn put_text(kind: AddressKind, bytes: &[u8], port: u16, out: &mut [u8], at: usiz
 
 // The text goes into a buffer that holds the longest one: what the caller lends is written only if the text fits.
 pub fn put_bound(bound: Address, text: &mut [u8]) -> Written
-    ensures { λ r. ⌜ Writes (writeText (boundText bound) (now (text .entry))) r (now (text .exit)) ⌝ }
+    ensures { λ r. ⌜ TextResult (writeText (boundText bound) (now (text .entry))) r (now (text .exit)) ⌝ }
     ensures { λ r. ⌜ (261 ≤ length (now (text .entry)) → r .answer ≡ Answer.Accepted) ⌝ }
 {
     let kind = bound.kind;

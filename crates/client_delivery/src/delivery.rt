@@ -6,7 +6,7 @@ ghost use Rattle.protocol.specs.Client.{room};
 ghost use Rattle.buffers.specs.write.Written.{overwrite};
 ghost use Rattle.client_stages.specs.due.Parts.{part};
 ghost use Rattle.client_stages.specs.declared.due.Stage.the-variants as Stage;
-ghost use Rattle.client_delivery.specs.delivery.Received.{unchanged, Receives};
+ghost use Rattle.client_delivery.specs.delivery.Received.{unchanged, ReceiveResult};
 use crate::piece::Taken;
 use buffers::write::copy;
 use buffers::write::least;
@@ -69,7 +69,7 @@ fn receive_awaiting(
     bound: Bound,
 ) -> Received
     requires { ⌜ length (now hold) ≡ 261 ⌝ }
-    ensures { λ r. ⌜ Receives (Stage.Awaiting reply) started held lengths (now (hold .entry)) (now (piece .entry)) room bound r (now (hold .exit)) ⌝ }
+    ensures { λ r. ⌜ ReceiveResult (Stage.Awaiting reply) started held lengths (now (hold .entry)) (now (piece .entry)) room bound r (now (hold .exit)) ⌝ }
 {
     let stage = Stage::Awaiting(reply);
     if !started {
@@ -98,7 +98,7 @@ pub fn receive(
     bound: Bound,
 ) -> Received
     requires { ⌜ length (now hold) ≡ 261 ⌝ }
-    ensures { λ r. ⌜ Receives stage started held lengths (now (hold .entry)) (now (piece .entry)) room bound r (now (hold .exit)) ⌝ }
+    ensures { λ r. ⌜ ReceiveResult stage started held lengths (now (hold .entry)) (now (piece .entry)) room bound r (now (hold .exit)) ⌝ }
 {
     match stage {
         Stage::Awaiting(reply) => receive_awaiting(

@@ -7,7 +7,7 @@ ghost use Rattle.buffers.specs.write.Written.{overwrite};
 ghost use Rattle.client_stages.specs.declared.due.Stage.the-variants as Stage;
 ghost use Rattle.client_stages.specs.due.Stages.{sessionAt};
 ghost use Rattle.client_delivery.specs.turns.Turns.{Rests, namedAt, Ready};
-ghost use Rattle.client_delivery.specs.piece.Takes.{Keeps, Opens, Takes};
+ghost use Rattle.client_delivery.specs.piece.Takes.{Keeps, Opens, TakeResult};
 use crate::turns::Turn;
 use crate::turns::work;
 use buffers::hold::keep_rest;
@@ -112,7 +112,7 @@ fn came_to(
     }
 }
 
-// Takes a piece behind the first n bytes of the hold. Where they are too few to decide anything all are held.
+// TakeResult a piece behind the first n bytes of the hold. Where they are too few to decide anything all are held.
 pub fn take(
     lengths: Lengths,
     reply: Reply,
@@ -122,7 +122,7 @@ pub fn take(
     bound: Bound,
 ) -> Taken
     requires { ⌜ (length (now hold) ≡ 261) × (n ≤ 261) ⌝ }
-    ensures { λ r. ⌜ Takes lengths reply (take n (now (hold .entry))) (now (piece .entry)) (now (hold .entry)) bound r (now (hold .exit)) ⌝ }
+    ensures { λ r. ⌜ TakeResult lengths reply (take n (now (hold .entry))) (now (piece .entry)) (now (hold .entry)) bound r (now (hold .exit)) ⌝ }
 {
     if n + piece.len() < fewest(reply) {
         buffers::write::copy(hold, n, piece);

@@ -30,13 +30,13 @@ use Rattle.client_stages.specs.declared.outcome.Ending.{Ending}
 use Rattle.client_stages.specs.outcome.Ends.{endAt}
 use Rattle.client_delivery.specs.turns.Turns.{keptIn}
 use Rattle.client_delivery.specs.declared.piece.Taken.{Taken}
-use Rattle.client_delivery.specs.piece.Takes.{Takes}
+use Rattle.client_delivery.specs.piece.Takes.{TakeResult}
 use Rattle.client_session.specs.declared.Session.{Session}
 use Rattle.client_session.specs.declared.Ended.{Ended}
 use Rattle.client_session.specs.Session.{sideOf, view}
-use Rattle.client_session.specs.Calls.{Call, refusal, Starts, started, starts, start, Delivers, delivered, moves, takes, deliver, end, endedBy}
+use Rattle.client_session.specs.Calls.{Call, refusal, StartResult, started, starts, start, DeliverResult, delivered, moves, takes, deliver, end, endedBy}
 use Rattle.client_delivery.specs.declared.delivery.Received.{Received}
-use Rattle.client_delivery.specs.delivery.Received.{Ways, settled, unstarted, short, none, taken, Receives}
+use Rattle.client_delivery.specs.delivery.Received.{Ways, settled, unstarted, short, none, taken, ReceiveResult}
 use Rattle.talk.specs.Attempts.{decidedIn, decidedBy, oneIfWaiting, attemptsBy}
 use Rattle.talk.specs.Talk.{feed, onward, isOver}
 
@@ -78,7 +78,7 @@ sending r g t hold a l b out =
 
 module _ (g : Bool) (held : ℕ) (l : Lengths) (hold piece : List ℕ) (x : Bound) (a : ℕ) (small : a < 2 ^ 64) (b out : List ℕ) where
   -- a piece taken behind held bytes
-  moves-as : (e : Reply) {t : Taken} {hold′ : List ℕ} → Takes l e (take held hold) piece hold x t hold′
+  moves-as : (e : Reply) {t : Taken} {hold′ : List ℕ} → TakeResult l e (take held hold) piece hold x t hold′
       → moves (sessionOf (Awaiting e) true held hold x a l b) (feed (client (keptIn l b)) (talkAt (keptIn l b) e) (take held hold ++ piece))
       (decidedIn (client (keptIn l b)) (talkAt (keptIn l b) e) (take held hold ++ piece) + oneIfWaiting (feed (client (keptIn l b)) (talkAt (keptIn l b) e) (take held hold ++ piece) .session)) out
       ≡ sending Accepted true t hold′ a l b out
@@ -109,9 +109,9 @@ pub part-long : (b : List ℕ) (from n : ℕ) → length b ≡ 1024 → from + n
 part-long b from n l h = length-take n (drop from b) ∙ rw (length-drop from b) (omega arith)
 
 module _ (s : Session) (piece out : List ℕ) {r : Received} {hold′ out′ : List ℕ} where
-  pub delivers : Receives (s .stage) (s .started) (s .held) (s .requests .lengths) (s .hold) piece (length out) (s .bound) r hold′ → s .attempts < 2 ^ 64 → {n : ℕ} → n ≡ (s .attempts + r .taken .attempts) % 2 ^ 64 → length (s .requests .bytes) ≡ 1024
+  pub delivers : ReceiveResult (s .stage) (s .started) (s .held) (s .requests .lengths) (s .hold) piece (length out) (s .bound) r hold′ → s .attempts < 2 ^ 64 → {n : ℕ} → n ≡ (s .attempts + r .taken .attempts) % 2 ^ 64 → length (s .requests .bytes) ≡ 1024
       → out′ ≡ overwrite out 0 (part (s .requests .bytes) (r .taken .from) (r .taken .sent))
-      → Delivers (deliver s piece out) piece
+      → DeliverResult (deliver s piece out) piece
       (record { answer = r .answer; used = r .taken .used; sent = r .taken .sent; session = sessionOf (r .taken .stage) (s .started) (r .taken .held) hold′ (r .taken .bound) n (s .requests .lengths) (s .requests .bytes) }) out′
   unfolding overwrite
   delivers v small {n = tries} more long w =
@@ -165,7 +165,7 @@ module _ (s : Session) (out : List ℕ) {r : Starting} (q : r ≡ startAt (s .st
   start-fits = rw q (omega (arith, length-take (startAt (s .stage) (s .started) (s .requests .lengths) (length out) .sent) (s .requests .bytes), sent-fits (s .started) (s .requests .lengths) (length out) (s .stage)))
 
   pub starts-as : {out′ : List ℕ} → out′ ≡ overwrite out 0 (take (r .sent) (s .requests .bytes))
-      → Starts (start s out)
+      → StartResult (start s out)
       (record { answer = r .answer; sent = r .sent; session = record { stage = s .stage; started = r .started; held = s .held; hold = s .hold; bound = s .bound; attempts = s .attempts; requests = s .requests } }) out′
   unfolding overwrite
   starts-as {out′} w =

@@ -19,7 +19,7 @@ use Rattle.client_stages.specs.declared.due.Stage.the-variants.{Awaiting, Open,
 use Rattle.client_stages.specs.due.Stages.{viewAt}
 use Rattle.address_format.specs.declared.endpoint.Written.{Written}
 use Rattle.address_format.specs.endpoint.Text.{boundText}
-use Rattle.address_format.specs.endpoint.Written.{writeText, Writes}
+use Rattle.address_format.specs.endpoint.Written.{writeText, TextResult}
 use Rattle.client_session.specs.declared.Session.{Session}
 use Rattle.client_stages.specs.outcome.Told.{isOpen}
 use Rattle.client_session.specs.Session.{heldBytes, outcome, bound, writeBound}
@@ -52,10 +52,10 @@ module _ (s : Session) {o : Bool} (e : o ≡ isOpen (s .stage)) where
   pub bound-is : o ≡ true → {n : ℕ} → n ≡ min (s .held) 261 → length (s .hold) ≡ 261 → addressOf (endpoint (kindOf (s .bound .kind) (take n (s .hold))) (s .bound .port)) ≡ bound s
   bound-is q p l = rw (p, take-least (s .held) (s .hold) l) (ap addressOf (named (s .stage) (s .bound) (take (s .held) (s .hold)) (sym e ∙ q)))
 
-  pub not-written : o ≡ false → (buffer : List ℕ) → Writes (writeBound s buffer) (record { answer = Refused NotOpen; len = 0 }) buffer
+  pub not-written : o ≡ false → (buffer : List ℕ) → TextResult (writeBound s buffer) (record { answer = Refused NotOpen; len = 0 }) buffer
   unfolding writeBound
   not-written q buffer = rw (sym e ∙ q) (record { returned = refl; buffer = refl; inside = zero-le })
 
-  pub written : o ≡ true → (buffer : List ℕ) {buffer′ : List ℕ} {a : Address} {r : Written} → a ≡ bound s → Writes (writeText (boundText a) buffer) r buffer′ → Writes (writeBound s buffer) r buffer′
+  pub written : o ≡ true → (buffer : List ℕ) {buffer′ : List ℕ} {a : Address} {r : Written} → a ≡ bound s → TextResult (writeText (boundText a) buffer) r buffer′ → TextResult (writeBound s buffer) r buffer′
   unfolding writeBound
   written q buffer p w = rw (sym e ∙ q, ← p) w

@@ -40,7 +40,7 @@ refusal e s out = record { answer = Refused e; session = s; used = 0; sent = 0; 
 abbrev pub started : Call → Started
 started c = record { answer = c .answer; sent = c .sent; session = c .session }
 
-pub record Starts (c : Call) (r : Started) (out′ : List ℕ) : Type 0 where
+pub record StartResult (c : Call) (r : Started) (out′ : List ℕ) : Type 0 where
   pub returned : r ≡ started c
   pub output : out′ ≡ c .output
   pub inside : r .sent ≤ length out′
@@ -48,7 +48,7 @@ pub record Starts (c : Call) (r : Started) (out′ : List ℕ) : Type 0 where
 abbrev pub delivered : Call → Delivered
 delivered c = record { answer = c .answer; used = c .used; sent = c .sent; session = c .session }
 
-pub record Delivers (c : Call) (piece : List ℕ) (r : Delivered) (out′ : List ℕ) : Type 0 where
+pub record DeliverResult (c : Call) (piece : List ℕ) (r : Delivered) (out′ : List ℕ) : Type 0 where
   pub returned : r ≡ delivered c
   pub output : out′ ≡ c .output
   pub inside : r .sent ≤ length out′

@@ -6,8 +6,8 @@ ghost use lib.ListN.{length};
 ghost use Rattle.protocol.specs.declared.Answer.the-variants as Answer;
 ghost use Rattle.protocol.specs.declared.Outcome.the-variants as Outcome;
 ghost use Rattle.client_session.specs.Session.{outcome, bound, writeBound};
-ghost use Rattle.address_format.specs.endpoint.Written.{Writes};
-ghost use Rattle.client_session.specs.Calls.{Starts, start, Delivers, deliver, endedBy, end};
+ghost use Rattle.address_format.specs.endpoint.Written.{TextResult};
+ghost use Rattle.client_session.specs.Calls.{StartResult, start, DeliverResult, deliver, endedBy, end};
 use address_format::endpoint::Written;
 use address_format::endpoint::put_bound;
 use buffers::write::copy;
@@ -66,7 +66,7 @@ impl Session {
     // Sends the first request, or all, from the output's start. Refused if the session is settled, or has been started, or the output has
     // less than 778 bytes over v5, or 1,024 over v4.
     pub fn start(self, out: &mut [u8]) -> Started
-        ensures { λ r. ⌜ Starts (start self (now (out .entry))) r (now (out .exit)) ⌝ }
+        ensures { λ r. ⌜ StartResult (start self (now (out .entry))) r (now (out .exit)) ⌝ }
     {
         let stage = self.stage;
         let requests = self.requests;
@@ -96,7 +96,7 @@ impl Session {
     // Takes a piece, and puts what it makes due at the output's start. Refused if the session is settled, or not started, or the output has less
     // than 778 bytes over v5, or 262 over v4.
     pub fn deliver(self, piece: &[u8], out: &mut [u8]) -> Delivered
-        ensures { λ r. ⌜ Delivers (deliver self (now (piece .entry)) (now (out .entry))) (now (piece .entry)) r (now (out .exit)) ⌝ }
+        ensures { λ r. ⌜ DeliverResult (deliver self (now (piece .entry)) (now (out .entry))) (now (piece .entry)) r (now (out .exit)) ⌝ }
     {
         let stage = self.stage;
         let requests = self.requests;
@@ -184,7 +184,7 @@ impl Session {
     // The bound address as text, at the buffer's start. Refused if the session is not open, or the buffer is shorter than the text, which has
     // at most 261 bytes.
     pub fn bound_text(self, text: &mut [u8]) -> Written
-        ensures { λ r. ⌜ Writes (writeBound self (now (text .entry))) r (now (text .exit)) ⌝ }
+        ensures { λ r. ⌜ TextResult (writeBound self (now (text .entry))) r (now (text .exit)) ⌝ }
         ensures { λ r. ⌜ (outcome self ≡ Outcome.Open → 261 ≤ length (now (text .entry)) → r .answer ≡ Answer.Accepted) ⌝ }
     {
         let stage = self.stage;

@@ -2,7 +2,7 @@
 ghost use mathlib.Core.Path.{_≡_};
 ghost use lib.ListN.{length};
 ghost use Rattle.proxy_spec.specs.declared.Stage.the-variants as Stage;
-ghost use Rattle.proxy_delivery.specs.delivery.Received.{unchanged, Receives};
+ghost use Rattle.proxy_delivery.specs.delivery.Received.{unchanged, ReceiveResult};
 use crate::piece::Taken;
 use crate::piece::take;
 use buffers::write::least;
@@ -49,7 +49,7 @@ fn receive_awaiting(
     out: &mut [u8],
 ) -> Received
     requires { ⌜ length (now hold) ≡ 1014 ⌝ }
-    ensures { λ r. ⌜ Receives (Stage.Awaiting field) held (record { authenticates = authenticates; user = now (user .entry); password = now (password .entry) }) (now (hold .entry)) (now (piece .entry)) bound (now (out .entry)) r (now (hold .exit)) (now (out .exit)) ⌝ }
+    ensures { λ r. ⌜ ReceiveResult (Stage.Awaiting field) held (record { authenticates = authenticates; user = now (user .entry); password = now (password .entry) }) (now (hold .entry)) (now (piece .entry)) bound (now (out .entry)) r (now (hold .exit)) (now (out .exit)) ⌝ }
 {
     let stage = Stage::Awaiting(field);
     if out.len() < PROXY_OUTPUT {
@@ -87,7 +87,7 @@ pub fn receive(
     out: &mut [u8],
 ) -> Received
     requires { ⌜ length (now hold) ≡ 1014 ⌝ }
-    ensures { λ r. ⌜ Receives stage held (record { authenticates = authenticates; user = now (user .entry); password = now (password .entry) }) (now (hold .entry)) (now (piece .entry)) bound (now (out .entry)) r (now (hold .exit)) (now (out .exit)) ⌝ }
+    ensures { λ r. ⌜ ReceiveResult stage held (record { authenticates = authenticates; user = now (user .entry); password = now (password .entry) }) (now (hold .entry)) (now (piece .entry)) bound (now (out .entry)) r (now (hold .exit)) (now (out .exit)) ⌝ }
 {
     match stage {
         Stage::Awaiting(field) => receive_awaiting(

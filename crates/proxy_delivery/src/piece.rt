@@ -7,7 +7,7 @@ ghost use Rattle.buffers.specs.write.Written.{overwrite};
 ghost use Rattle.proxy_decisions.specs.decision.Due.{asksAt, sessionAt};
 ghost use Rattle.proxy_decisions.specs.destination.Last.{Last};
 ghost use Rattle.proxy_delivery.specs.turns.Turns.{Rests, Ready, lastIn};
-ghost use Rattle.proxy_delivery.specs.piece.Pieces.{Keeps, Asks, Takes};
+ghost use Rattle.proxy_delivery.specs.piece.Pieces.{Keeps, Asks, TakeResult};
 use crate::turns::Turn;
 use crate::turns::work;
 use buffers::hold::keep_rest;
@@ -89,7 +89,7 @@ fn came_to(turn: Turn, hold: &mut [u8], n: usize, piece: &[u8], bound: Bound) ->
     }
 }
 
-// Takes a piece behind the first n bytes of the hold.
+// TakeResult a piece behind the first n bytes of the hold.
 pub fn take(
     field: Field,
     authenticates: bool,
@@ -102,7 +102,7 @@ pub fn take(
     out: &mut [u8],
 ) -> Taken
     requires { ⌜ (length (now hold) ≡ 1014) × (n ≤ 1014) × (262 ≤ length (now out)) ⌝ }
-    ensures { λ r. ⌜ Takes (record { authenticates = authenticates; user = now (user .entry); password = now (password .entry) }) field (take n (now (hold .entry))) (now (piece .entry)) (now (hold .entry)) bound (now (out .entry)) r (now (hold .exit)) (now (out .exit)) ⌝ }
+    ensures { λ r. ⌜ TakeResult (record { authenticates = authenticates; user = now (user .entry); password = now (password .entry) }) field (take n (now (hold .entry))) (now (piece .entry)) (now (hold .entry)) bound (now (out .entry)) r (now (hold .exit)) (now (out .exit)) ⌝ }
 {
     let turn = work(
         field,

@@ -3,7 +3,7 @@ ghost use mathlib.Core.Path.{_≡_};
 ghost use Rattle.proxy_spec.specs.End as machine;
 ghost use Rattle.proxy_spec.specs.End.{endpointOf, stageAfter};
 ghost use Rattle.proxy_replies.specs.stages.Told.{outcomeAt, hasDestination, unended, endAt};
-ghost use Rattle.proxy_replies.specs.stages.Answers.{unanswered, answerAsked, answerAt, Answers};
+ghost use Rattle.proxy_replies.specs.stages.Answers.{unanswered, answerAsked, answerAt, AnswerResult};
 use crate::write::put_answer;
 use crate::write::status_to;
 use protocol::Answer;
@@ -118,7 +118,7 @@ fn stage_after(version: Version, status: u8) -> Stage
 
 // An answer that is awaited.
 fn answer_asked(version: Version, status: u8, bound: Record, port: u16, out: &mut [u8]) -> Said
-    ensures { λ r. ⌜ Answers (answerAsked version status (endpointOf bound port) (now (out .entry))) r (now (out .exit)) ⌝ }
+    ensures { λ r. ⌜ AnswerResult (answerAsked version status (endpointOf bound port) (now (out .entry))) r (now (out .exit)) ⌝ }
 {
     if out.len() < PROXY_OUTPUT {
         return unanswered(SocksError::ShortOutput, Stage::Asked(version));
@@ -132,7 +132,7 @@ fn answer_asked(version: Version, status: u8, bound: Record, port: u16, out: &mu
 
 // The caller's answer, from the output's start.
 pub fn answer(stage: Stage, status: u8, bound: Record, port: u16, out: &mut [u8]) -> Said
-    ensures { λ r. ⌜ Answers (answerAt stage status (endpointOf bound port) (now (out .entry))) r (now (out .exit)) ⌝ }
+    ensures { λ r. ⌜ AnswerResult (answerAt stage status (endpointOf bound port) (now (out .entry))) r (now (out .exit)) ⌝ }
 {
     match stage {
         Stage::Awaiting(field) => unanswered(SocksError::Settled, stage),

@@ -27,14 +27,14 @@ use Rattle.proxy_decisions.specs.destination.Last.{targetAs}
 use Rattle.buffers.proofs.write.Parts.{take-min}
 use Rattle.proxy_replies.specs.stages.Answers as stages
 use Rattle.proxy_delivery.specs.declared.delivery.Received.{Received}
-use Rattle.proxy_delivery.specs.piece.Pieces.{Takes}
-use Rattle.proxy_delivery.specs.delivery.Received.{Waits, Ways, settled, short, none, taken, Receives}
+use Rattle.proxy_delivery.specs.piece.Pieces.{TakeResult}
+use Rattle.proxy_delivery.specs.delivery.Received.{Waits, Ways, settled, short, none, taken, ReceiveResult}
 use Rattle.proxy_session.specs.declared.Credential.{Credential}
 use Rattle.proxy_session.specs.declared.Server.{Server}
 use Rattle.proxy_session.specs.declared.Ended.{Ended}
 use Rattle.proxy_session.specs.declared.SetUp.{SetUp}
 use Rattle.proxy_session.specs.Server.{credentialOf, textOf, setupOf, sideOf, view, atStage, destination, fresh}
-use Rattle.proxy_session.specs.Calls.{Call, Delivers, delivered, Answers, endedBy, moves, takes, deliver, answer, end, tooLong, setUp}
+use Rattle.proxy_session.specs.Calls.{Call, DeliverResult, delivered, AnswerResult, endedBy, moves, takes, deliver, answer, end, tooLong, setUp}
 use Rattle.talk.specs.Talk.{feed, onward, isOver}
 use Rattle.buffers.specs.write.Written.{overwrite}
 
@@ -72,7 +72,7 @@ module _ (held : ℕ) (hold piece : List ℕ) (x : Bound) (a : Bool) (u p : Cred
   went r hold′ out′ =
       record { answer = r .answer; session = serverOf (r .taken .stage) (r .taken .held) hold′ (r .taken .bound) a u p; used = r .taken .used; sent = r .taken .sent; output = out′ }
 
-  moves-as : (f : Field) {r : Received} {hold′ out′ : List ℕ} → r .answer ≡ Accepted → Takes c f (take held hold) piece hold x out (r .taken) hold′ out′
+  moves-as : (f : Field) {r : Received} {hold′ out′ : List ℕ} → r .answer ≡ Accepted → TakeResult c f (take held hold) piece hold x out (r .taken) hold′ out′
       → moves (serverOf (Awaiting f) held hold x a u p) (feed (server c) (talkAt c f) (take held hold ++ piece)) out ≡ went r hold′ out′
   unfolding overwrite
   moves-as f {r} {hold′} {out′} q w =
@@ -96,8 +96,8 @@ module _ (held : ℕ) (hold piece : List ℕ) (x : Bound) (a : Bool) (u p : Cred
   goes stage (none n h z q w o) = rw (q, w, o, waits-on stage _ (take held hold) n, le-leb 262 (length out) h) (takes-none (serverOf stage held hold x a u p) piece out z)
   goes stage (taken f s h z q w) = rw (s, le-leb 262 (length out) h) (takes-more (serverOf (Awaiting f) held hold x a u p) piece out z ∙ moves-as f q w)
 
-pub delivers : (s : Server) (piece out : List ℕ) {r : Received} {hold′ out′ : List ℕ} → Receives (s .stage) (s .held) (setupOf s) (s .hold) piece (s .bound) out r hold′ out′
-    → Delivers (deliver s piece out) piece
+pub delivers : (s : Server) (piece out : List ℕ) {r : Received} {hold′ out′ : List ℕ} → ReceiveResult (s .stage) (s .held) (setupOf s) (s .hold) piece (s .bound) out r hold′ out′
+    → DeliverResult (deliver s piece out) piece
     (record { answer = r .answer; used = r .taken .used; sent = r .taken .sent; server = serverOf (r .taken .stage) (r .taken .held) hold′ (r .taken .bound) (s .authenticates) (s .user) (s .password) }) out′
 delivers s piece out v =
     let g = goes (s .held) (s .hold) piece (s .bound) (s .authenticates) (s .user) (s .password) out (s .stage) (v .way) in
@@ -105,8 +105,8 @@ delivers s piece out v =
 
 -- ---- the caller's answer, and the end of the stream
 
-pub answers : (s : Server) (status : ℕ) (x : Endpoint) (out : List ℕ) {r : Said} {out′ : List ℕ} → stages.Answers (stages.answerAt (s .stage) status x out) r out′
-    → Answers (answer s status x out) (record { answer = r .answer; sent = r .sent; server = atStage (r .stage) s }) out′
+pub answers : (s : Server) (status : ℕ) (x : Endpoint) (out : List ℕ) {r : Said} {out′ : List ℕ} → stages.AnswerResult (stages.answerAt (s .stage) status x out) r out′
+    → AnswerResult (answer s status x out) (record { answer = r .answer; sent = r .sent; server = atStage (r .stage) s }) out′
 unfolding answer
 answers s status x out {r} v =
     record { returned = (λ i. record { answer = v .returned i .answer; sent = v .returned i .sent; server = atStage (v .returned i .stage) s }); output = v .output; inside = v .inside }

@@ -35,7 +35,7 @@ refusal e s out = record { answer = Refused e; session = s; used = 0; sent = 0; 
 abbrev pub delivered : Call → Delivered
 delivered c = record { answer = c .answer; used = c .used; sent = c .sent; server = c .session }
 
-pub record Delivers (c : Call) (piece : List ℕ) (r : Delivered) (out′ : List ℕ) : Type 0 where
+pub record DeliverResult (c : Call) (piece : List ℕ) (r : Delivered) (out′ : List ℕ) : Type 0 where
   pub returned : r ≡ delivered c
   pub output : out′ ≡ c .output
   pub inside : r .sent ≤ length out′
@@ -44,7 +44,7 @@ pub record Delivers (c : Call) (piece : List ℕ) (r : Delivered) (out′ : List
 abbrev pub answered : Call → Answered
 answered c = record { answer = c .answer; sent = c .sent; server = c .session }
 
-pub record Answers (c : Call) (r : Answered) (out′ : List ℕ) : Type 0 where
+pub record AnswerResult (c : Call) (r : Answered) (out′ : List ℕ) : Type 0 where
   pub returned : r ≡ answered c
   pub output : out′ ≡ c .output
   pub inside : r .sent ≤ length out′

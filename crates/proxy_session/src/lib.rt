@@ -6,7 +6,7 @@ ghost use Rattle.protocol.specs.Bound.{unbound};
 ghost use Rattle.proxy_decisions.specs.destination.Last.{targetAs};
 ghost use Rattle.proxy_spec.specs.End.{endpointOf};
 ghost use Rattle.proxy_session.specs.Server.{credentialOf, fresh, outcome, destination};
-ghost use Rattle.proxy_session.specs.Calls.{setUp, deliver, Delivers, answer, Answers, end, endedBy};
+ghost use Rattle.proxy_session.specs.Calls.{setUp, deliver, DeliverResult, answer, AnswerResult, end, endedBy};
 use buffers::fields::credentials_too_long;
 use buffers::write::copy;
 use buffers::write::least;
@@ -143,7 +143,7 @@ impl Server {
     // Takes a client's piece, and puts what is said at the output's start. Refused unless bytes are awaited, or if the output has less than 262
     // bytes.
     pub fn deliver(self, piece: &[u8], out: &mut [u8]) -> Delivered
-        ensures { λ r. ⌜ Delivers (deliver self (now (piece .entry)) (now (out .entry))) (now (piece .entry)) r (now (out .exit)) ⌝ }
+        ensures { λ r. ⌜ DeliverResult (deliver self (now (piece .entry)) (now (out .entry))) (now (piece .entry)) r (now (out .exit)) ⌝ }
     {
         let stage = self.stage;
         let bound = self.bound;
@@ -188,7 +188,7 @@ impl Server {
     // The caller's answer to a destination: a status, and the address and port that are bound. Refused unless it is awaited, or if the output has
     // less than 262 bytes.
     pub fn answer(self, status: u8, bound: Record, port: u16, out: &mut [u8]) -> Answered
-        ensures { λ r. ⌜ Answers (answer self status (endpointOf bound port) (now (out .entry))) r (now (out .exit)) ⌝ }
+        ensures { λ r. ⌜ AnswerResult (answer self status (endpointOf bound port) (now (out .entry))) r (now (out .exit)) ⌝ }
     {
         let stage = self.stage;
         let said = proxy_replies::stages::answer(stage, status, bound, port, out);

@@ -12,7 +12,7 @@ use Rattle.client_session.specs.declared.Started.{Started}
 use Rattle.client_session.specs.declared.Delivered.{Delivered}
 use Rattle.client_session.specs.declared.Ended.{Ended}
 use Rattle.client_session.specs.Session.{view, packed, firstRoomAt, firstAt}
-use Rattle.client_session.specs.Calls.{Call, refusal, Starts, Delivers, endedBy, starts, start, deliver, end}
+use Rattle.client_session.specs.Calls.{Call, refusal, StartResult, DeliverResult, endedBy, starts, start, deliver, end}
 use Rattle.raw_session.specs.declared.RawSession.{RawSession}
 use Rattle.raw_session.specs.declared.RawStep.{RawStep}
 use Rattle.raw_session.specs.Raw.{sessionOf, stepOf}
@@ -49,14 +49,14 @@ module _ (s : Session) where
   end-step = ended-step (isOver (view s)) (not (s .started))
 
 module _ (raw : RawSession) {s : Session} (e : s ≡ sessionOf raw) where
-  pub says-started : (out out′ : List ℕ) (d : Started) (r : RawStep) → Starts (start s out) d out′ → r ≡ stepOf (d .answer) (d .session) 0 (d .sent) → Says (start (sessionOf raw) out) r out′
+  pub says-started : (out out′ : List ℕ) (d : Started) (r : RawStep) → StartResult (start s out) d out′ → r ≡ stepOf (d .answer) (d .session) 0 (d .sent) → Says (start (sessionOf raw) out) r out′
   says-started out out′ d r h q =
-      let g : Starts (start (sessionOf raw) out) d out′ = subst (λ (t : Session). Starts (start t out) d out′) e h in
+      let g : StartResult (start (sessionOf raw) out) d out′ = subst (λ (t : Session). StartResult (start t out) d out′) e h in
       record { returned = q ∙ ap (λ (x : Started). stepOf (x .answer) (x .session) 0 (x .sent)) (g .returned) ∙ start-step (sessionOf raw) out; output = g .output }
 
-  pub says-delivered : (piece out out′ : List ℕ) (d : Delivered) (r : RawStep) → Delivers (deliver s piece out) piece d out′ → r ≡ stepOf (d .answer) (d .session) (d .used) (d .sent) → Says (deliver (sessionOf raw) piece out) r out′
+  pub says-delivered : (piece out out′ : List ℕ) (d : Delivered) (r : RawStep) → DeliverResult (deliver s piece out) piece d out′ → r ≡ stepOf (d .answer) (d .session) (d .used) (d .sent) → Says (deliver (sessionOf raw) piece out) r out′
   says-delivered piece out out′ d r h q =
-      let g : Delivers (deliver (sessionOf raw) piece out) piece d out′ = subst (λ (t : Session). Delivers (deliver t piece out) piece d out′) e h in
+      let g : DeliverResult (deliver (sessionOf raw) piece out) piece d out′ = subst (λ (t : Session). DeliverResult (deliver t piece out) piece d out′) e h in
       record { returned = q ∙ ap (λ (x : Delivered). stepOf (x .answer) (x .session) (x .used) (x .sent)) (g .returned); output = g .output }
 
   pub says-ended : {d : Ended} {r : RawStep} → d ≡ endedBy (end s) → r ≡ stepOf (d .answer) (d .session) 0 0 → r ≡ stepBy (end (sessionOf raw))

@@ -14,7 +14,7 @@ use Rattle.proxy_session.specs.declared.Delivered.{Delivered}
 use Rattle.proxy_session.specs.declared.Answered.{Answered}
 use Rattle.proxy_session.specs.declared.Ended.{Ended}
 use Rattle.proxy_session.specs.Server.{view, packed}
-use Rattle.proxy_session.specs.Calls.{Call, refusal, Delivers, Answers, endedBy, setUp, deliver, answer, end}
+use Rattle.proxy_session.specs.Calls.{Call, refusal, DeliverResult, AnswerResult, endedBy, setUp, deliver, answer, end}
 use Rattle.raw_numbers.specs.Numbers.{truth, familyOf}
 use Rattle.raw_server.specs.declared.RawServer.{RawServer}
 use Rattle.raw_server.specs.declared.RawServed.{RawServed}
@@ -43,18 +43,18 @@ module _ (s : Server) where
   end-served = ended-served (isOver (view s))
 
 module _ (raw : RawServer) {s : Server} (e : s ≡ serverOf raw) where
-  pub says-delivered : (piece out out′ : List ℕ) (d : Delivered) (r : RawServed) → Delivers (deliver s piece out) piece d out′ → r ≡ servedOf (d .answer) (d .server) (d .used) (d .sent)
+  pub says-delivered : (piece out out′ : List ℕ) (d : Delivered) (r : RawServed) → DeliverResult (deliver s piece out) piece d out′ → r ≡ servedOf (d .answer) (d .server) (d .used) (d .sent)
       → Serves (deliver (serverOf raw) piece out) r out′
   says-delivered piece out out′ d r h q =
-      let g : Delivers (deliver (serverOf raw) piece out) piece d out′ = subst (λ (t : Server). Delivers (deliver t piece out) piece d out′) e h in
+      let g : DeliverResult (deliver (serverOf raw) piece out) piece d out′ = subst (λ (t : Server). DeliverResult (deliver t piece out) piece d out′) e h in
       record { returned = q ∙ ap (λ (x : Delivered). servedOf (x .answer) (x .server) (x .used) (x .sent)) (g .returned); output = g .output }
 
   pub says-answered : (status : ℕ) (bound : RawRecord) (port : ℕ) (out out′ : List ℕ) {b : Record} (d : Answered) (r : RawServed) → b ≡ recordOf bound
-      → Answers (answer s status (endpointOf b port) out) d out′ → r ≡ servedOf (d .answer) (d .server) 0 (d .sent) → Serves (answer (serverOf raw) status (endpointOf (recordOf bound) port) out) r out′
+      → AnswerResult (answer s status (endpointOf b port) out) d out′ → r ≡ servedOf (d .answer) (d .server) 0 (d .sent) → Serves (answer (serverOf raw) status (endpointOf (recordOf bound) port) out) r out′
   unfolding answer
   says-answered status bound port out out′ d r eb h q =
-      let f : Answers (answer s status (endpointOf (recordOf bound) port) out) d out′ = subst (λ (x : Record). Answers (answer s status (endpointOf x port) out) d out′) eb h in
-      let g : Answers (answer (serverOf raw) status (endpointOf (recordOf bound) port) out) d out′ = subst (λ (t : Server). Answers (answer t status (endpointOf (recordOf bound) port) out) d out′) e f in
+      let f : AnswerResult (answer s status (endpointOf (recordOf bound) port) out) d out′ = subst (λ (x : Record). AnswerResult (answer s status (endpointOf x port) out) d out′) eb h in
+      let g : AnswerResult (answer (serverOf raw) status (endpointOf (recordOf bound) port) out) d out′ = subst (λ (t : Server). AnswerResult (answer t status (endpointOf (recordOf bound) port) out) d out′) e f in
       record { returned = q ∙ ap (λ (x : Answered). servedOf (x .answer) (x .server) 0 (x .sent)) (g .returned); output = g .output }
 
   pub says-ended : {d : Ended} {r : RawServed} → d ≡ endedBy (end s) → r ≡ servedOf (d .answer) (d .server) 0 0 → r ≡ servedBy (end (serverOf raw))

@@ -13,7 +13,7 @@ use Rattle.protocol.specs.declared.SocksError.the-variants.{NotOpen}
 use Rattle.protocol.specs.Numbers.{answerNumber}
 use Rattle.address_format.specs.declared.endpoint.Written.{Written}
 use Rattle.address_format.specs.endpoint.Text.{boundText}
-use Rattle.address_format.specs.endpoint.Written.{unwritten, writeText, Writes}
+use Rattle.address_format.specs.endpoint.Written.{unwritten, writeText, TextResult}
 use Rattle.client_stages.specs.outcome.Told.{isOpen}
 use Rattle.client_session.specs.declared.Session.{Session}
 use Rattle.client_session.specs.Session.{outcome, bound, writeBound}
@@ -33,7 +33,7 @@ module _ (raw : RawSession) {s : Session} (e : s ≡ sessionOf raw) where
   says-bound {a} {k} p q = ap (λ (n : ℕ). record { port = a .port; kind = n; len = a .len; bytes = a .bytes }) q ∙ ap addressOf (p ∙ ap bound e)
 
   -- a text has at most 261 bytes
-  pub says-fits : (text text′ : List ℕ) (w : Written) {x : ℕ} → Writes (writeBound s text) w text′ → (outcome s ≡ outcomes.Open → 261 ≤ length text → w .answer ≡ Accepted) → x ≡ answerNumber (w .answer)
+  pub says-fits : (text text′ : List ℕ) (w : Written) {x : ℕ} → TextResult (writeBound s text) w text′ → (outcome s ≡ outcomes.Open → 261 ≤ length text → w .answer ≡ Accepted) → x ≡ answerNumber (w .answer)
       → 261 ≤ length text → x ≡ 18 → ⊥
   unfolding writeBound
   says-fits text text′ w {x} h f q l z = go (isOpen (s .stage)) refl
@@ -44,9 +44,9 @@ module _ (raw : RawSession) {s : Session} (e : s ≡ sessionOf raw) where
           let n : answerNumber (w .answer) ≡ 17 = ap (λ (v : Written). answerNumber (v .answer)) (h .returned) ∙ ap (λ (b : Bool). answerNumber (cond b (writeText (boundText (bound s)) text) (unwritten NotOpen text) .answer)) o in
           omega (arith, q, z, n)
 
-  pub says-text : (text text′ : List ℕ) (w : Written) {x : ℕ} → Writes (writeBound s text) w text′ → x ≡ answerNumber (w .answer) → Tells (writeBound (sessionOf raw) text) (record { len = w .len; answer = x }) text′
+  pub says-text : (text text′ : List ℕ) (w : Written) {x : ℕ} → TextResult (writeBound s text) w text′ → x ≡ answerNumber (w .answer) → Tells (writeBound (sessionOf raw) text) (record { len = w .len; answer = x }) text′
   says-text text text′ w h q =
-      let g : Writes (writeBound (sessionOf raw) text) w text′ = subst (λ (t : Session). Writes (writeBound t text) w text′) e h in
+      let g : TextResult (writeBound (sessionOf raw) text) w text′ = subst (λ (t : Session). TextResult (writeBound t text) w text′) e h in
       record {
         returned = ap (λ (n : ℕ). record { len = w .len; answer = n }) q ∙ ap (λ (v : Written). record { len = v .len; answer = answerNumber (v .answer) }) (g .returned);
         buffer = g .buffer;

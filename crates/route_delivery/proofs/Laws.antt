@@ -28,9 +28,9 @@ use Rattle.client_stages.specs.start.Starting.{firstSize}
 use Rattle.client_stages.proofs.start.Laws.{first-part, first-within}
 use Rattle.client_delivery.specs.turns.Turns.{keptIn}
 use Rattle.client_delivery.specs.declared.piece.Taken.{Taken}
-use Rattle.client_delivery.specs.piece.Takes.{Takes}
+use Rattle.client_delivery.specs.piece.Takes.{TakeResult}
 use Rattle.client_delivery.specs.declared.delivery.Received.{Received}
-use Rattle.client_delivery.specs.delivery.Received.{Ways, settled, unstarted, short, none, taken, Receives}
+use Rattle.client_delivery.specs.delivery.Received.{Ways, settled, unstarted, short, none, taken, ReceiveResult}
 use Rattle.client_session.specs.declared.Session.{Session}
 use Rattle.client_session.specs.Calls.{Call}
 use Rattle.client_session.proofs.Deliveries.{part-long, sending, goes}
@@ -38,7 +38,7 @@ use Rattle.route_delivery.specs.declared.Hop.{Hop}
 use Rattle.route_delivery.specs.declared.Spot.{Spot}
 use Rattle.route_delivery.specs.declared.Relayed.{Relayed}
 use Rattle.route_delivery.specs.declared.Stepped.{Stepped}
-use Rattle.route_delivery.specs.Relay.{hopAt, bytesAt, requestsAt, goesAt, begunAt, Relay, handed, alone, handingOn, relayed, goesOn, sessionAt, spotOf, begunSpot, mostDue, Relayable, Went, Begins, Steps}
+use Rattle.route_delivery.specs.Relay.{hopAt, bytesAt, requestsAt, goesAt, begunAt, Relay, handed, alone, handingOn, relayed, goesOn, sessionAt, spotOf, begunSpot, mostDue, Relayable, RelayResult, Begins, Steps}
 use Rattle.talk.specs.Decision.{Decision, undecided, decided, good, bad}
 use Rattle.talk.specs.Talk.{stop, send, await, Side, TalkOf, Fed, Session as SideSession, deciding, feed}
 
@@ -128,14 +128,14 @@ module _ (l : Lengths) (stage : Stage) (held : ℕ) (hold piece : List ℕ) (x :
   unchanged-most : r .taken .sent ≡ 0 → r .taken .sent ≤ mostDue l stage
   unchanged-most q = rw q (omega arith)
 
-  taken-most : (b : List ℕ) → length b ≡ 1024 → (e : Reply) → Takes l e (take held hold) piece hold x (r .taken) hold′ → (o : Bool) → l .optimistic ≡ o → r .taken .sent ≤ cond o 0 (stillDue (Awaiting e))
+  taken-most : (b : List ℕ) → length b ≡ 1024 → (e : Reply) → TakeResult l e (take held hold) piece hold x (r .taken) hold′ → (o : Bool) → l .optimistic ≡ o → r .taken .sent ≤ cond o 0 (stillDue (Awaiting e))
   taken-most b long e w true q =
       let s : part b (r .taken .from) (r .taken .sent) ≡ [] = sym (ap (λ (f : Fed Reply Endpoint SocksError). f .sent) (w .whole b)) ∙ feed-silent (client (keptIn l b)) (talkAt (keptIn l b) e) (silent-at (keptIn l b) q e) (take held hold ++ piece) in
       let z : r .taken .sent ≡ 0 = sym (part-long b (r .taken .from) (r .taken .sent) long (w .inside)) ∙ ap length s in
       omega arith
   taken-most b long e w false q = w .few
 
-  pub sent-most : (b : List ℕ) → length b ≡ 1024 → Receives stage true held l hold piece 1024 x r hold′ → r .taken .sent ≤ mostDue l stage
+  pub sent-most : (b : List ℕ) → length b ≡ 1024 → ReceiveResult stage true held l hold piece 1024 x r hold′ → r .taken .sent ≤ mostDue l stage
   sent-most b long v = go (v .way)
     where
       go : Ways stage true held l hold piece 1024 x r hold′ → r .taken .sent ≤ mostDue l stage
@@ -149,7 +149,7 @@ abbrev lent : List ℕ
 lent = replicate 1024 0
 
 module _ (hops : List Hop) (p : Spot) (bytes hold piece out : List ℕ) (y : Relayable hops p bytes hold (length out)) {r : Received} {hold′ : List ℕ}
-    (v : Receives (p .stage) true (p .held) (hopAt hops (p .behind) .lengths) hold piece 1024 (p .bound) r hold′) where
+    (v : ReceiveResult (p .stage) true (p .held) (hopAt hops (p .behind) .lengths) hold piece 1024 (p .bound) r hold′) where
   abbrev l : Lengths
   l = hopAt hops (p .behind) .lengths
 
@@ -180,7 +180,7 @@ module _ (hops : List Hop) (p : Spot) (bytes hold piece out : List ℕ) (y : Rel
     abbrev here : Relayed
     here = record { spot = record { behind = p .behind; stage = t .stage; held = t .held; bound = t .bound; attempts = n; sent = sent }; used = t .used }
 
-    pub hands : Went (alone (p .behind) (handed s piece)) p piece out here hold′ out′
+    pub hands : RelayResult (alone (p .behind) (handed s piece)) p piece out here hold′ out′
     hands =
         let e = sym handed-as in
         record {
@@ -226,7 +226,7 @@ module _ (hops : List Hop) (bytes : List ℕ) (s : Session) (piece : List ℕ) w
       go (Failed e) g = absurd (true≢false (sym g))
 
 module _ (hops : List Hop) (p : Spot) (bytes hold piece out : List ℕ) (y : Relayable hops p bytes hold (length out)) (here : Relayed) {hold₁ out₁ : List ℕ}
-    (w : Went (alone (p .behind) (handed (sessionAt hops bytes p hold) piece)) p piece out here hold₁ out₁) where
+    (w : RelayResult (alone (p .behind) (handed (sessionAt hops bytes p hold) piece)) p piece out here hold₁ out₁) where
   abbrev left : Call
   left = handed (sessionAt hops bytes p hold) piece
 
@@ -237,7 +237,7 @@ module _ (hops : List Hop) (p : Spot) (bytes hold piece out : List ℕ) (y : Rel
   pub stops-here : goesOn (here .spot .stage) (here .spot .behind) ≡ false → Steps hops p bytes hold piece out (record { spot = here .spot; used = here .used; more = false }) hold₁ out₁
   stops-here g =
       record {
-        stops = λ f. subst (λ (q : Relay). Went q p piece out here hold₁ out₁) (sym (stays hops bytes (sessionAt hops bytes p hold) piece (p .behind) (left-goes ∙ g))) w;
+        stops = λ f. subst (λ (q : Relay). RelayResult q p piece out here hold₁ out₁) (sym (stays hops bytes (sessionAt hops bytes p hold) piece (p .behind) (left-goes ∙ g))) w;
         goes = λ t. absurd (true≢false (sym t));
         within = w .within;
       }
@@ -306,11 +306,11 @@ nearer v = omega (arith, v .some, ap (λ (z : Spot). z .behind) (v .spot))
 -- the next one's relay of the rest ends the first one's
 module _ (hops : List Hop) (p : Spot) (bytes hold piece out : List ℕ) (here : Stepped) {hold₁ out₁ : List ℕ} (v : Begins hops p bytes hold piece out here hold₁ out₁) (i : here .used ≤ length piece)
     (last : Relayed) {hold₂ out₂ : List ℕ}
-    (z : Went (relayed hops bytes (here .spot .behind) (sessionAt hops bytes (here .spot) hold₁) (take (length piece - here .used) (drop (here .used) piece))) (here .spot) (take (length piece - here .used) (drop (here .used) piece)) out₁ last hold₂ out₂) where
+    (z : RelayResult (relayed hops bytes (here .spot .behind) (sessionAt hops bytes (here .spot) hold₁) (take (length piece - here .used) (drop (here .used) piece))) (here .spot) (take (length piece - here .used) (drop (here .used) piece)) out₁ last hold₂ out₂) where
   pub sums : here .used + last .used ≤ length piece
   sums = omega (arith, i, z .within, length-take (length piece - here .used) (drop (here .used) piece), length-drop (here .used) piece)
 
-  pub relays : Went (relayed hops bytes (p .behind) (sessionAt hops bytes p hold) piece) p piece out (record { spot = last .spot; used = here .used + last .used }) hold₂ out₂
+  pub relays : RelayResult (relayed hops bytes (p .behind) (sessionAt hops bytes p hold) piece) p piece out (record { spot = last .spot; used = here .used + last .used }) hold₂ out₂
   relays =
       let s = sessionAt hops bytes p hold in
       let c = handed s piece in
@@ -324,7 +324,7 @@ module _ (hops : List Hop) (p : Spot) (bytes hold piece out : List ℕ) (here : 
       let next : relayed hops bytes (here .spot .behind) (sessionAt hops bytes (here .spot) hold₁) (take (length piece - here .used) (drop (here .used) piece)) ≡ relayed hops bytes n (begunAt hops bytes n (c .session)) (drop (c .used) piece) =
       λ j. relayed hops bytes (v .spot j .behind) (session j) (rest j) in
       let sent = alone (p .behind) c .sent in
-      subst (λ (x : Relay). Went x p piece out (record { spot = last .spot; used = here .used + last .used }) hold₂ out₂) (sym e)
+      subst (λ (x : Relay). RelayResult x p piece out (record { spot = last .spot; used = here .used + last .used }) hold₂ out₂) (sym e)
       (record {
         spot = z .spot ∙ ap (λ (x : Relay). spotOf (x .behind) (x .session) (last .spot .sent)) next;
         used = λ j. v .used j + (z .used ∙ ap (λ (x : Relay). x .used) next) j;

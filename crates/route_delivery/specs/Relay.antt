@@ -120,7 +120,7 @@ pub record Relayable (hops : List Hop) (p : Spot) (bytes hold : List ℕ) (out :
   pub roomy : p .sent + (mostDue (hopAt hops (p .behind) .lengths) (p .stage) + 1024 * p .behind) ≤ out
 
 -- what was done equals a relay: the spot behind it, the hold, and what was sent from a place of the output on
-pub record Went (q : Relay) (p : Spot) (piece out : List ℕ) (r : Relayed) (hold′ out′ : List ℕ) : Type 0 where
+pub record RelayResult (q : Relay) (p : Spot) (piece out : List ℕ) (r : Relayed) (hold′ out′ : List ℕ) : Type 0 where
   pub spot : r .spot ≡ spotOf (q .behind) (q .session) (r .spot .sent)
   pub used : r .used ≡ q .used
   pub held : hold′ ≡ q .session .hold
@@ -141,6 +141,6 @@ abbrev pub stopped : Stepped → Relayed
 stopped r = record { spot = r .spot; used = r .used }
 
 pub record Steps (hops : List Hop) (p : Spot) (bytes hold piece out : List ℕ) (r : Stepped) (hold′ out′ : List ℕ) : Type 0 where
-  pub stops : r .more ≡ false → Went (relayed hops bytes (p .behind) (sessionAt hops bytes p hold) piece) p piece out (stopped r) hold′ out′
+  pub stops : r .more ≡ false → RelayResult (relayed hops bytes (p .behind) (sessionAt hops bytes p hold) piece) p piece out (stopped r) hold′ out′
   pub goes : r .more ≡ true → Begins hops p bytes hold piece out r hold′ out′
   pub within : r .used ≤ length piece

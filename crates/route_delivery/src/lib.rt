@@ -4,7 +4,7 @@ ghost use mathlib.Core.Path.{_≡_};
 ghost use lib.ListN.{length};
 ghost use Rattle.buffers.specs.write.Written.{Wrote};
 ghost use Rattle.client_stages.specs.due.Parts.{part};
-ghost use Rattle.route_delivery.specs.Relay.{hopAt, bytesAt, goesAt, handed, alone, relayed, goesOn, sessionAt, begunSpot, mostDue, Relayable, Went, Steps};
+ghost use Rattle.route_delivery.specs.Relay.{hopAt, bytesAt, goesAt, handed, alone, relayed, goesOn, sessionAt, begunSpot, mostDue, Relayable, RelayResult, Steps};
 use buffers::write::copy;
 use client_delivery::delivery::receive;
 use client_stages::due::Lengths;
@@ -94,7 +94,7 @@ fn hand(
     out: &mut [u8],
 ) -> Relayed
     requires { ⌜ Relayable hops spot (now bytes) (now hold) (length (now out)) ⌝ }
-    ensures { λ r. ⌜ Went (alone (spot .behind) (handed (sessionAt hops (now (bytes .entry)) spot (now (hold .entry))) (now (piece .entry)))) spot (now (piece .entry)) (now (out .entry)) r (now (hold .exit)) (now (out .exit)) ⌝ }
+    ensures { λ r. ⌜ RelayResult (alone (spot .behind) (handed (sessionAt hops (now (bytes .entry)) spot (now (hold .entry))) (now (piece .entry)))) spot (now (piece .entry)) (now (out .entry)) r (now (hold .exit)) (now (out .exit)) ⌝ }
     ensures { λ r. ⌜ (r .spot .sent ≤ spot .sent + mostDue (hopAt hops (spot .behind) .lengths) (spot .stage)) × (r .spot .attempts < 2 ^ 64) ⌝ }
 {
     let behind = spot.behind;
@@ -175,7 +175,7 @@ pub fn relay(
     out: &mut [u8],
 ) -> Relayed
     requires { ⌜ Relayable hops spot (now bytes) (now hold) (length (now out)) ⌝ }
-    ensures { λ r. ⌜ Went (relayed hops (now (bytes .entry)) (spot .behind) (sessionAt hops (now (bytes .entry)) spot (now (hold .entry))) (now (piece .entry))) spot (now (piece .entry)) (now (out .entry)) r (now (hold .exit)) (now (out .exit)) ⌝ }
+    ensures { λ r. ⌜ RelayResult (relayed hops (now (bytes .entry)) (spot .behind) (sessionAt hops (now (bytes .entry)) spot (now (hold .entry))) (now (piece .entry))) spot (now (piece .entry)) (now (out .entry)) r (now (hold .exit)) (now (out .exit)) ⌝ }
 {
     let stepped = step(hops, spot, bytes, hold, piece, out);
     let here = stepped.spot;

@@ -8,7 +8,7 @@ ghost use Rattle.protocol.specs.declared.Bound.{Bound};
 ghost use Rattle.client_stages.specs.due.Stages.{viewAt};
 ghost use Rattle.talk.specs.Talk.{isOver};
 ghost use Rattle.route_session.specs.calls.Taking.{Takeable, routeAt, deliveredAt};
-ghost use Rattle.route_session.specs.calls.Calls.{lastIn, deliver, Delivers, end, endedBy, outcome, bound};
+ghost use Rattle.route_session.specs.calls.Calls.{lastIn, deliver, DeliverResult, end, endedBy, outcome, bound};
 use buffers::write::least;
 use client_delivery::bound_address::address;
 use client_delivery::bound_address::unbound;
@@ -107,7 +107,7 @@ fn take(
     out: &mut [u8],
 ) -> Taken
     requires { ⌜ Takeable spot (now bytes) (now hold) ⌝ }
-    ensures { λ r. ⌜ Delivers (deliver (routeAt hops count spot (now (bytes .entry)) (now (hold .entry))) (now (piece .entry)) (now (out .entry))) (now (piece .entry)) (deliveredAt hops count (now (bytes .entry)) r (now (hold .exit))) (now (out .exit)) ⌝ }
+    ensures { λ r. ⌜ DeliverResult (deliver (routeAt hops count spot (now (bytes .entry)) (now (hold .entry))) (now (piece .entry)) (now (out .entry))) (now (piece .entry)) (deliveredAt hops count (now (bytes .entry)) r (now (hold .exit))) (now (out .exit)) ⌝ }
 {
     let stage = spot.stage;
     if is_over(stage) {
@@ -145,7 +145,7 @@ impl Route {
     // Takes a piece, and puts what it makes due at the output's start: to the proxy that is spoken to, and once that is open to the next,
     // which takes what it left. Refused if the route is settled, or the output has less than 1,024 bytes for each of its proxies.
     pub fn deliver(self, piece: &[u8], out: &mut [u8]) -> Delivered
-        ensures { λ r. ⌜ Delivers (deliver self (now (piece .entry)) (now (out .entry))) (now (piece .entry)) r (now (out .exit)) ⌝ }
+        ensures { λ r. ⌜ DeliverResult (deliver self (now (piece .entry)) (now (out .entry))) (now (piece .entry)) r (now (out .exit)) ⌝ }
     {
         let stage = self.stage;
         let bound = self.bound;

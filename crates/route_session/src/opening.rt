@@ -9,7 +9,7 @@ ghost use Rattle.buffers.specs.write.Written.{Wrote};
 ghost use Rattle.route_delivery.specs.Relay.{noHop, goesAt, begunSpot};
 ghost use Rattle.route_session.specs.plan.Plan.{proxiesOf, routeOf};
 ghost use Rattle.route_session.specs.opening.First.{freshSpot, openedAt};
-ghost use Rattle.route_session.specs.calls.Calls.{emptyRoute, openBy, sizeAnswer, opening, Opens};
+ghost use Rattle.route_session.specs.calls.Calls.{emptyRoute, openBy, sizeAnswer, opening, OpenResult};
 use crate::calls::Opened;
 use crate::calls::Route;
 use crate::plan::Proxy;
@@ -142,7 +142,7 @@ fn open_sized(
     out: &mut [u8],
 ) -> Opened
     requires { ⌜ (0 < count) × ((count ≤ 8) × (1024 ≤ length (now out))) ⌝ }
-    ensures { λ r. ⌜ Opens (openBy (checkInTurn (askedOf (proxiesOf (now (text .entry)) (take count proxies)) (now (host .entry)) port)) (map openingFor (askedOf (proxiesOf (now (text .entry)) (take count proxies)) (now (host .entry)) port)) (now (out .entry))) r (now (out .exit)) ⌝ }
+    ensures { λ r. ⌜ OpenResult (openBy (checkInTurn (askedOf (proxiesOf (now (text .entry)) (take count proxies)) (now (host .entry)) port)) (map openingFor (askedOf (proxiesOf (now (text .entry)) (take count proxies)) (now (host .entry)) port)) (now (out .entry))) r (now (out .exit)) ⌝ }
 {
     let mut bytes = [0u8; ROUTE_REQUESTS];
     let planned = plan(proxies, 0, count, text, host, port, no_hops(), &mut bytes);
@@ -154,7 +154,7 @@ fn open_sized(
     }
 }
 
-// Opens a route of so many proxies to a destination. Their hosts and credentials are parts of the text. The caller connects to the first,
+// OpenResult a route of so many proxies to a destination. Their hosts and credentials are parts of the text. The caller connects to the first,
 // whose own host and port are not looked at. All openings are checked before any byte goes, without local lookup. Refused if there is no
 // proxy or there are more than eight, or the output has less than 1,024 bytes for each, or an opening is.
 pub fn open(
@@ -165,7 +165,7 @@ pub fn open(
     port: Port,
     out: &mut [u8],
 ) -> Opened
-    ensures { λ r. ⌜ Opens (opening (routeOf (now (text .entry)) proxies count (now (host .entry)) port) (now (out .entry))) r (now (out .exit)) ⌝ }
+    ensures { λ r. ⌜ OpenResult (opening (routeOf (now (text .entry)) proxies count (now (host .entry)) port) (now (out .entry))) r (now (out .exit)) ⌝ }
 {
     let answer = size_answer(count, out.len());
     match answer {

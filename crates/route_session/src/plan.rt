@@ -5,7 +5,7 @@ ghost use lib.ListN.{length, set, take, drop};
 ghost use Rattle.buffers.specs.write.Written.{overwrite};
 ghost use Rattle.route_spec.specs.Route.{askedBy, askedOf};
 ghost use Rattle.protocol.specs.declared.Version.the-variants as Version;
-ghost use Rattle.route_session.specs.plan.Plan.{partOf, proxyOf, proxiesOf, preparedFor, IsPrepared, firstIn, keptHop, endsWith, Plans};
+ghost use Rattle.route_session.specs.plan.Plan.{partOf, proxyOf, proxiesOf, preparedFor, IsPrepared, firstIn, keptHop, endsWith, PlanResult};
 use buffers::write::copy;
 use buffers::write::least;
 use client_session::Prepared;
@@ -161,7 +161,7 @@ pub fn plan(
     bytes: &mut [u8],
 ) -> Planned
     requires { ⌜ (at < count) × ((count ≤ 8) × (length (now bytes) ≡ 8192)) ⌝ }
-    ensures { λ r. ⌜ Plans (askedOf (proxiesOf (now (text .entry)) (drop at (take count proxies))) (now (host .entry)) port) hops (now (bytes .entry)) r (now (bytes .exit)) ⌝ }
+    ensures { λ r. ⌜ PlanResult (askedOf (proxiesOf (now (text .entry)) (drop at (take count proxies))) (now (host .entry)) port) hops (now (bytes .entry)) r (now (bytes .exit)) ⌝ }
 {
     let prepared = prepare_at(proxies, at, count, text, host, port);
     let answer = prepared.answer;

@@ -23,7 +23,7 @@ use Rattle.buffers.specs.write.Written.{Wrote, overwrite}
 use Rattle.buffers.proofs.write.Laws.{wrote-length}
 use Rattle.address_format.specs.groups.Groups.{splitBy, groupsOf, groupsText}
 use Rattle.address_format.specs.endpoint.Text.{hostText, textOf, boundText}
-use Rattle.address_format.specs.endpoint.Written.{writeText, Writes}
+use Rattle.address_format.specs.endpoint.Written.{writeText, TextResult}
 
 -- ---- an address
 
@@ -108,12 +108,12 @@ module _ {o whole s t : List ℕ} {n : ℕ} (v : Adds o 0 s n whole) (e : s ≡ 
   counted : n ≡ length t
   counted = v .place ∙ zero-add (length s) ∙ ap length e
 
-  pub refused : {text : List ℕ} → length text < n → Writes (writeText t text) (record { answer = Refused ShortText; len = 0 }) text
+  pub refused : {text : List ℕ} → length text < n → TextResult (writeText t text) (record { answer = Refused ShortText; len = 0 }) text
   refused {text} h =
       let f = lt-leb (length t) (length text) (omega (arith, counted)) in
       record { returned = rw f; buffer = rw f; inside = omega arith }
 
-  pub written : {text text′ : List ℕ} {m : ℕ} → Wrote text 0 (take n whole) m text′ → Writes (writeText t text) (record { answer = Accepted; len = m }) text′
+  pub written : {text text′ : List ℕ} {m : ℕ} → Wrote text 0 (take n whole) m text′ → TextResult (writeText t text) (record { answer = Accepted; len = m }) text′
   unfolding overwrite
   written {text} {text′} {m} u =
       let w : Wrote text 0 t m text′ = rw (v .added ∙ e) at u in

@@ -28,7 +28,7 @@ writeText t buffer =
     (unwritten ShortText buffer)
 
 -- what a function of the code returns and leaves in the buffer, as a call says; with the bound that a caller slices by
-pub record Writes (c : TextCall) (r : Written) (buffer′ : List ℕ) : Type 0 where
+pub record TextResult (c : TextCall) (r : Written) (buffer′ : List ℕ) : Type 0 where
   pub returned : r ≡ record { answer = c .answer; len = c .len }
   pub buffer : buffer′ ≡ c .buffer
   pub inside : r .len ≤ length buffer′

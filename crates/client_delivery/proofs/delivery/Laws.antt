@@ -21,9 +21,9 @@ use Rattle.client_stages.specs.due.Stages.{rank}
 use Rattle.client_stages.specs.due.Parts.{part}
 use Rattle.client_stages.specs.due.Due.{stillDue}
 use Rattle.client_delivery.specs.declared.piece.Taken.{Taken}
-use Rattle.client_delivery.specs.piece.Takes.{Takes}
+use Rattle.client_delivery.specs.piece.Takes.{TakeResult}
 use Rattle.client_delivery.specs.declared.delivery.Received.{Received}
-use Rattle.client_delivery.specs.delivery.Received.{unchanged, settled, unstarted, short, none, taken, Receives}
+use Rattle.client_delivery.specs.delivery.Received.{unchanged, settled, unstarted, short, none, taken, ReceiveResult}
 
 pub take-least : (n : ℕ) (l : List ℕ) → length l ≡ 261 → take (min n 261) l ≡ take n l
 take-least n l h = rw (← h) (take-min n l)
@@ -38,22 +38,22 @@ still-room ProxyRes = omega arith
 still-room Response = omega arith
 
 module _ (g : Bool) (held : ℕ) (l : Lengths) (hold piece : List ℕ) (lent : ℕ) (x : Bound) where
-  pub receives-settled : (stage : Stage) → rank stage ≡ 0 → {r : Received} → r ≡ unchanged (Refused Settled) stage held x → Receives stage g held l hold piece lent x r hold
+  pub receives-settled : (stage : Stage) → rank stage ≡ 0 → {r : Received} → r ≡ unchanged (Refused Settled) stage held x → ReceiveResult stage g held l hold piece lent x r hold
   receives-settled stage z q = rw q (record { way = settled z refl refl; within = zero-le; fits = zero-le; inside = zero-le })
 
   module _ (e : Reply) {r : Received} where
-    pub receives-unstarted : g ≡ false → r ≡ unchanged (Refused OutOfOrder) (Awaiting e) held x → Receives (Awaiting e) g held l hold piece lent x r hold
+    pub receives-unstarted : g ≡ false → r ≡ unchanged (Refused OutOfOrder) (Awaiting e) held x → ReceiveResult (Awaiting e) g held l hold piece lent x r hold
     receives-unstarted f q = rw q (record { way = unstarted e refl f refl refl; within = zero-le; fits = zero-le; inside = zero-le })
 
-    pub receives-short : g ≡ true → lent < room e → r ≡ unchanged (Refused ShortOutput) (Awaiting e) held x → Receives (Awaiting e) g held l hold piece lent x r hold
+    pub receives-short : g ≡ true → lent < room e → r ≡ unchanged (Refused ShortOutput) (Awaiting e) held x → ReceiveResult (Awaiting e) g held l hold piece lent x r hold
     receives-short t h q = rw q (record { way = short e refl t h refl refl; within = zero-le; fits = zero-le; inside = zero-le })
 
-    pub receives-none : g ≡ true → room e ≤ lent → length piece ≡ 0 → r ≡ unchanged Accepted (Awaiting e) held x → Receives (Awaiting e) g held l hold piece lent x r hold
+    pub receives-none : g ≡ true → room e ≤ lent → length piece ≡ 0 → r ≡ unchanged Accepted (Awaiting e) held x → ReceiveResult (Awaiting e) g held l hold piece lent x r hold
     receives-none t h z q = rw q (record { way = none e refl t h z refl refl; within = zero-le; fits = zero-le; inside = zero-le })
 
   -- a piece taken behind held bytes
-  pub receives-taken : (e : Reply) {h : List ℕ} → h ≡ take held hold → {t : Taken} {hold′ : List ℕ} → Takes l e h piece hold x t hold′ → g ≡ true → room e ≤ lent → (length piece ≡ 0 → ⊥)
-      → Receives (Awaiting e) g held l hold piece lent x (record { answer = Accepted; taken = t }) hold′
+  pub receives-taken : (e : Reply) {h : List ℕ} → h ≡ take held hold → {t : Taken} {hold′ : List ℕ} → TakeResult l e h piece hold x t hold′ → g ≡ true → room e ≤ lent → (length piece ≡ 0 → ⊥)
+      → ReceiveResult (Awaiting e) g held l hold piece lent x (record { answer = Accepted; taken = t }) hold′
   receives-taken e q w j h z =
       let s = w .few in
       record { way = taken e refl j h z refl (rw q at w); within = w .keeps .within; fits = omega (arith, s, still-room e); inside = w .inside }

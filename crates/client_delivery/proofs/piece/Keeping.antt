@@ -24,7 +24,7 @@ use Rattle.client_stages.proofs.due.Sending.{due-inside}
 use Rattle.client_delivery.specs.turns.Turns.{keptIn, Rests, namedAt, Ready, Worked}
 use Rattle.client_delivery.proofs.turns.Steps.{stage-rests, rests-decided}
 use Rattle.client_delivery.specs.declared.piece.Taken.{Taken}
-use Rattle.client_delivery.specs.piece.Takes.{Keeps, Opens, Takes}
+use Rattle.client_delivery.specs.piece.Takes.{Keeps, Opens, TakeResult}
 use Rattle.talk.specs.Talk.{waiting}
 
 unread : (h p : List ℕ) (place : ℕ) → length (drop place (h ++ p)) ≡ length h + length p - place
@@ -87,7 +87,7 @@ opens-as stage from sent decided b q = record { is = λ i. record { stage = stag
 
 -- a piece worked through
 pub takes-worked : (l : Lengths) (e : Reply) (h p hold : List ℕ) (bound : Bound) (stage : Stage) (begin place sent decided : ℕ) {from : ℕ} {r : Taken} {hold′ : List ℕ} → Worked l e (h ++ p) stage begin place sent decided → from ≡ dueFrom l e
-    → Keeps (sessionAt stage (namedAt e begin (h ++ p)) (drop place (h ++ p))) place h p hold bound decided r hold′ × (r .from ≡ from) × (r .sent ≡ sent) → Takes l e h p hold bound r hold′
+    → Keeps (sessionAt stage (namedAt e begin (h ++ p)) (drop place (h ++ p))) place h p hold bound decided r hold′ × (r .from ≡ from) × (r .sent ≡ sent) → TakeResult l e h p hold bound r hold′
 takes-worked l e h p hold bound stage begin place sent decided w f k =
     let g = k .1 ∙ f in
     let n = k .2 in
@@ -118,7 +118,7 @@ from-start n hold p h =
 
 -- too few bytes to decide anything
 pub takes-few : (l : Lengths) (e : Reply) (p hold : List ℕ) (bound : Bound) {n : ℕ} {r : Taken} {hold′ : List ℕ} → n ≤ length hold → length hold ≡ 261 → n + length p < fewest e
-    → r ≡ record { stage = Awaiting e; held = n + length p; used = length p; from = 0; sent = 0; bound = bound; attempts = 1 } → hold′ ≡ overwrite hold n p → Takes l e (take n hold) p hold bound r hold′
+    → r ≡ record { stage = Awaiting e; held = n + length p; used = length p; from = 0; sent = 0; bound = bound; attempts = 1 } → hold′ ≡ overwrite hold n p → TakeResult l e (take n hold) p hold bound r hold′
 takes-few l e p hold bound {n} {r} {hold′} h long f q w =
     let m : length (take n hold) ≡ n = length-take n hold ∙ omega arith in
     let y : n + length p ≡ n + length p - 0 = omega arith in

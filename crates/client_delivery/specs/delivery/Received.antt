@@ -14,7 +14,7 @@ use Rattle.client_stages.specs.declared.due.Lengths.{Lengths}
 use Rattle.client_stages.specs.declared.due.Stage.{Stage}
 use Rattle.client_stages.specs.declared.due.Stage.the-variants.{Awaiting}
 use Rattle.client_stages.specs.due.Stages.{rank}
-use Rattle.client_delivery.specs.piece.Takes.{Takes}
+use Rattle.client_delivery.specs.piece.Takes.{TakeResult}
 use Rattle.client_delivery.specs.declared.delivery.Received.{Received}
 
 abbrev pub unchanged : Answer → Stage → ℕ → Bound → Received
@@ -27,11 +27,11 @@ pub data Ways (stage : Stage) (started : Bool) (held : ℕ) (l : Lengths) (hold 
       → Ways stage started held l hold piece lent bound r hold′
   none : (e : Reply) → stage ≡ Awaiting e → started ≡ true → client.room e ≤ lent → length piece ≡ 0 → r ≡ unchanged Accepted stage held bound → hold′ ≡ hold
       → Ways stage started held l hold piece lent bound r hold′
-  taken : (e : Reply) → stage ≡ Awaiting e → started ≡ true → client.room e ≤ lent → (length piece ≡ 0 → ⊥) → r .answer ≡ Accepted → Takes l e (take held hold) piece hold bound (r .taken) hold′
+  taken : (e : Reply) → stage ≡ Awaiting e → started ≡ true → client.room e ≤ lent → (length piece ≡ 0 → ⊥) → r .answer ≡ Accepted → TakeResult l e (take held hold) piece hold bound (r .taken) hold′
       → Ways stage started held l hold piece lent bound r hold′
 
 -- with the bounds that a caller goes by
-pub record Receives (stage : Stage) (started : Bool) (held : ℕ) (l : Lengths) (hold piece : List ℕ) (lent : ℕ) (bound : Bound) (r : Received) (hold′ : List ℕ) : Type 0 where
+pub record ReceiveResult (stage : Stage) (started : Bool) (held : ℕ) (l : Lengths) (hold piece : List ℕ) (lent : ℕ) (bound : Bound) (r : Received) (hold′ : List ℕ) : Type 0 where
   pub way : Ways stage started held l hold piece lent bound r hold′
   pub within : r .taken .used ≤ length piece
   pub fits : r .taken .sent ≤ lent

@@ -34,7 +34,7 @@ pub record Opens (x : Endpoint) (stage : Stage) (used from sent decided : ℕ) (
   pub holds : hold′ ≡ bytesIn (x .address) ++ drop (length (bytesIn (x .address))) hold
 
 -- a piece taken: all that held bytes and piece do, whatever the bytes of the requests
-pub record Takes (l : Lengths) (e : Reply) (held piece hold : List ℕ) (bound : Bound) (r : Taken) (hold′ : List ℕ) : Type 0 where
+pub record TakeResult (l : Lengths) (e : Reply) (held piece hold : List ℕ) (bound : Bound) (r : Taken) (hold′ : List ℕ) : Type 0 where
   pub session : SideSession
   pub place : ℕ
   pub whole : (b : List ℕ) → feed (client (keptIn l b)) (talkAt (keptIn l b) e) (held ++ piece) ≡ record { session = session; sent = part b (r .from) (r .sent); place = place }

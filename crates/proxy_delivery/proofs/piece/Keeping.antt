@@ -22,7 +22,7 @@ use Rattle.proxy_decisions.specs.destination.Last.{Last}
 use Rattle.proxy_delivery.specs.declared.turns.Turn.{Turn}
 use Rattle.proxy_delivery.specs.turns.Turns.{Rests, Ready, lastIn, Worked}
 use Rattle.proxy_delivery.specs.declared.piece.Taken.{Taken}
-use Rattle.proxy_delivery.specs.piece.Pieces.{Keeps, Asks, Takes}
+use Rattle.proxy_delivery.specs.piece.Pieces.{Keeps, Asks, TakeResult}
 
 -- what a piece comes to at a stage and a place, with what was said
 abbrev pub Came : Stage → Endpoint → ℕ → List ℕ → List ℕ → List ℕ → Bound → ℕ → Taken → List ℕ → Type 0
@@ -96,7 +96,7 @@ room-said f out h = let b = rank-bounds f .1 in omega arith
 
 -- a piece worked through
 pub takes-worked : (c : Setup) (f : Field) (h p hold : List ℕ) (bound : Bound) (out : List ℕ) (t : Turn) {out′ : List ℕ} {r : Taken} {hold′ : List ℕ} → Worked c f (h ++ p) 0 out 0 t out′
-    → Came (t .stage) (asksAt (t .last) (lastIn t (h ++ p))) (t .place) h p hold bound (t .sent) r hold′ → Takes c f h p hold bound out r hold′ out′
+    → Came (t .stage) (asksAt (t .last) (lastIn t (h ++ p))) (t .place) h p hold bound (t .sent) r hold′ → TakeResult c f h p hold bound out r hold′ out′
 takes-worked c f h p hold bound out t w k =
     let m = sessionAt (t .stage) (asksAt (t .last) (lastIn t (h ++ p))) (drop (t .place) (h ++ p)) in
     let z : t .place - 0 ≡ t .place = omega arith in

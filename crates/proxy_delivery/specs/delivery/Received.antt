@@ -11,7 +11,7 @@ use Rattle.proxy_spec.specs.declared.Field.{Field}
 use Rattle.proxy_spec.specs.declared.Stage.{Stage}
 use Rattle.proxy_spec.specs.declared.Stage.the-variants.{Awaiting, Asked, Open, Failed}
 use Rattle.proxy_spec.specs.End.{Setup}
-use Rattle.proxy_delivery.specs.piece.Pieces.{Takes}
+use Rattle.proxy_delivery.specs.piece.Pieces.{TakeResult}
 use Rattle.proxy_delivery.specs.declared.delivery.Received.{Received}
 
 abbrev pub unchanged : Answer → Stage → ℕ → Bound → Received
@@ -29,11 +29,11 @@ pub data Ways (stage : Stage) (held : ℕ) (c : Setup) (hold piece : List ℕ) (
       → Ways stage held c hold piece bound out r hold′ out′
   none : Waits stage → 262 ≤ length out → length piece ≡ 0 → r ≡ unchanged Accepted stage held bound → hold′ ≡ hold → out′ ≡ out
       → Ways stage held c hold piece bound out r hold′ out′
-  taken : (f : Field) → stage ≡ Awaiting f → 262 ≤ length out → (length piece ≡ 0 → ⊥) → r .answer ≡ Accepted → Takes c f (take held hold) piece hold bound out (r .taken) hold′ out′
+  taken : (f : Field) → stage ≡ Awaiting f → 262 ≤ length out → (length piece ≡ 0 → ⊥) → r .answer ≡ Accepted → TakeResult c f (take held hold) piece hold bound out (r .taken) hold′ out′
       → Ways stage held c hold piece bound out r hold′ out′
 
 -- with the bounds that a caller goes by
-pub record Receives (stage : Stage) (held : ℕ) (c : Setup) (hold piece : List ℕ) (bound : Bound) (out : List ℕ) (r : Received) (hold′ out′ : List ℕ) : Type 0 where
+pub record ReceiveResult (stage : Stage) (held : ℕ) (c : Setup) (hold piece : List ℕ) (bound : Bound) (out : List ℕ) (r : Received) (hold′ out′ : List ℕ) : Type 0 where
   pub way : Ways stage held c hold piece bound out r hold′ out′
   pub within : r .taken .used ≤ length piece
   pub inside : r .taken .sent ≤ length out′

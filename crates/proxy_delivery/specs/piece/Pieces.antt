@@ -46,7 +46,7 @@ pub record Asks (x : Endpoint) (stage : Stage) (used sent : ℕ) (hold : List �
   pub is : r ≡ record { stage = stage; held = length (bytesIn (x .address)); used = used; sent = sent; bound = boundOf x }
   pub holds : hold′ ≡ bytesIn (x .address) ++ drop (length (bytesIn (x .address))) hold
 
-pub record Takes (c : Setup) (f : Field) (held piece hold : List ℕ) (bound : Bound) (out : List ℕ) (r : Taken) (hold′ out′ : List ℕ) : Type 0 where
+pub record TakeResult (c : Setup) (f : Field) (held piece hold : List ℕ) (bound : Bound) (out : List ℕ) (r : Taken) (hold′ out′ : List ℕ) : Type 0 where
   pub session : EndSession
   pub said : List ℕ
   pub place : ℕ

@@ -16,7 +16,7 @@ use Rattle.proxy_spec.specs.End.{statusTo, success, replyTo, stageAfter}
 use Rattle.buffers.specs.write.Written.{overwrite, Wrote}
 use Rattle.buffers.proofs.write.Laws.{wrote-length}
 use Rattle.proxy_replies.specs.declared.stages.Said.{Said}
-use Rattle.proxy_replies.specs.stages.Answers.{unanswered, refused, answerAsked, Answers}
+use Rattle.proxy_replies.specs.stages.Answers.{unanswered, refused, answerAsked, AnswerResult}
 
 module _ (v : Version) (s : ℕ) {t u : ℕ} (e : t ≡ statusTo v s) (k : u ≡ success v) where
   pub opens : t ≡ u → Open v ≡ stageAfter v s
@@ -26,11 +26,11 @@ module _ (v : Version) (s : ℕ) {t u : ℕ} (e : t ≡ statusTo v s) (k : u ≡
   fails n = rw (ne-eqb (statusTo v s) (success v) (λ q. n (e ∙ q ∙ sym k)), e)
 
 module _ (v : Version) (s : ℕ) (x : Endpoint) {out : List ℕ} where
-  pub answers-short : {r : Said} → length out < 262 → r ≡ unanswered ShortOutput (Asked v) → Answers (answerAsked v s x out) r out
+  pub answers-short : {r : Said} → length out < 262 → r ≡ unanswered ShortOutput (Asked v) → AnswerResult (answerAsked v s x out) r out
   answers-short h q = rw (lt-leb 262 (length out) h, q) (record { returned = refl; output = refl; inside = omega arith })
 
   pub answers-sent : {out′ : List ℕ} {n : ℕ} {g : Stage} → 262 ≤ length out → Wrote out 0 (replyTo v s x) n out′ → g ≡ stageAfter v s
-      → Answers (answerAsked v s x out) (record { answer = Accepted; sent = n; stage = g }) out′
+      → AnswerResult (answerAsked v s x out) (record { answer = Accepted; sent = n; stage = g }) out′
   unfolding overwrite
   answers-sent {out′} {n} {g} h w q =
       let p : n ≡ length (replyTo v s x) = w .place ∙ zero-add (length (replyTo v s x)) in
@@ -41,5 +41,5 @@ module _ (v : Version) (s : ℕ) (x : Endpoint) {out : List ℕ} where
       (record { returned = λ j. record { answer = Accepted; sent = p j; stage = q j }; output = z; inside = i })
 
 -- none is awaited
-pub declined : {g : Stage} {out : List ℕ} {r : Said} → r ≡ unanswered Settled g → Answers (refused Settled g out) r out
+pub declined : {g : Stage} {out : List ℕ} {r : Said} → r ≡ unanswered Settled g → AnswerResult (refused Settled g out) r out
 declined q = rw q (record { returned = refl; output = refl; inside = omega arith })

@@ -42,7 +42,7 @@ answerAt (Open v) status x out = refused Settled (Open v) out
 answerAt (Failed e) status x out = refused Settled (Failed e) out
 
 -- the code's value and output are these; with the bound that a caller slices by
-pub record Answers (q : Reply) (r : Said) (out′ : List ℕ) : Type 0 where
+pub record AnswerResult (q : Reply) (r : Said) (out′ : List ℕ) : Type 0 where
   pub returned : r ≡ q .said
   pub output : out′ ≡ q .output
   pub inside : r .sent ≤ length out′

@@ -23,12 +23,12 @@ use Rattle.client_session.specs.Calls as session-calls
 use Rattle.route_delivery.specs.declared.Hop.{Hop}
 use Rattle.route_delivery.specs.declared.Spot.{Spot}
 use Rattle.route_delivery.specs.declared.Relayed.{Relayed}
-use Rattle.route_delivery.specs.Relay.{hopAt, Relay, relayed, sessionAt, mostDue, Relayable, Went}
+use Rattle.route_delivery.specs.Relay.{hopAt, Relay, relayed, sessionAt, mostDue, Relayable, RelayResult}
 use Rattle.route_session.specs.declared.calls.Route.{Route}
 use Rattle.route_session.specs.declared.calls.Delivered.{Delivered}
 use Rattle.route_session.specs.declared.calls.Taken.{Taken}
 use Rattle.route_session.specs.calls.Taking.{routeAt, deliveredAt}
-use Rattle.route_session.specs.calls.Calls.{Call, refusal, lastIn, behindIn, roomIn, sessionIn, withSession, isOver, moves, takes, deliver, delivered, Delivers, end, endedBy}
+use Rattle.route_session.specs.calls.Calls.{Call, refusal, lastIn, behindIn, roomIn, sessionIn, withSession, isOver, moves, takes, deliver, delivered, DeliverResult, end, endedBy}
 
 -- ---- what is written from the output's start
 
@@ -69,8 +69,8 @@ module _ (r : Route) (piece out : List ℕ) {n : ℕ} (q : n ≡ behindIn r) whe
   relay-is : relayed (r .hops) (r .bytes) n (sessionAt (r .hops) (r .bytes) spot (r .hold)) piece ≡ relayed (r .hops) (r .bytes) (behindIn r) (sessionIn r) piece
   relay-is = λ i. relayed (r .hops) (r .bytes) (q i) (session-is i) piece
 
-  pub takes-as : (w : Relayed) {hold′ out′ : List ℕ} → Went (relayed (r .hops) (r .bytes) n (sessionAt (r .hops) (r .bytes) spot (r .hold)) piece) spot piece out w hold′ out′
-      → Delivers (takes r piece out) piece
+  pub takes-as : (w : Relayed) {hold′ out′ : List ℕ} → RelayResult (relayed (r .hops) (r .bytes) n (sessionAt (r .hops) (r .bytes) spot (r .hold)) piece) spot piece out w hold′ out′
+      → DeliverResult (takes r piece out) piece
       (record { answer = Accepted; used = w .used; sent = w .spot .sent; route = record { stage = w .spot .stage; held = w .spot .held; hold = hold′; bound = w .spot .bound; attempts = w .spot .attempts; count = r .count; behind = w .spot .behind; hops = r .hops; bytes = r .bytes } })
       out′
   takes-as w {hold′} {out′} v =
@@ -96,7 +96,7 @@ pub room-enough : (r : Route) {n out : ℕ} → n ≡ lastIn (r .count) → 1024
 room-enough r q h = omega (arith, q, h)
 
 module _ (r : Route) (piece out : List ℕ) {over : Bool} (v : over ≡ isOver r) where
-  refused : (e : SocksError) {d : Delivered} → d ≡ undelivered e r → deliver r piece out ≡ refusal e r out → Delivers (deliver r piece out) piece d out
+  refused : (e : SocksError) {d : Delivered} → d ≡ undelivered e r → deliver r piece out ≡ refusal e r out → DeliverResult (deliver r piece out) piece d out
   refused e {d} x q =
       record {
         returned = x ∙ ap delivered (sym q);
@@ -105,7 +105,7 @@ module _ (r : Route) (piece out : List ℕ) {over : Bool} (v : over ≡ isOver r
         within = rw x (omega arith);
       }
 
-  pub delivers-settled : over ≡ true → {d : Delivered} → d ≡ undelivered Settled r → Delivers (deliver r piece out) piece d out
+  pub delivers-settled : over ≡ true → {d : Delivered} → d ≡ undelivered Settled r → DeliverResult (deliver r piece out) piece d out
   unfolding deliver
   delivers-settled t x = refused Settled x (rw (sym v ∙ t))
 
@@ -113,13 +113,13 @@ module _ (r : Route) (piece out : List ℕ) {over : Bool} (v : over ≡ isOver r
     pub room-is : 1024 * (n + 1) ≡ roomIn r
     room-is = omega (arith, q)
 
-    pub delivers-short : length out < 1024 * (n + 1) → {d : Delivered} → d ≡ undelivered ShortOutput r → Delivers (deliver r piece out) piece d out
+    pub delivers-short : length out < 1024 * (n + 1) → {d : Delivered} → d ≡ undelivered ShortOutput r → DeliverResult (deliver r piece out) piece d out
     unfolding deliver
     delivers-short h x =
         let z : length out < roomIn r = rw (← room-is) h in
         refused ShortOutput x (rw (sym v ∙ f, lt-leb (roomIn r) (length out) z))
 
-    pub delivers-takes : 1024 * (n + 1) ≤ length out → {d : Delivered} {out′ : List ℕ} → Delivers (takes r piece out) piece d out′ → Delivers (deliver r piece out) piece d out′
+    pub delivers-takes : 1024 * (n + 1) ≤ length out → {d : Delivered} {out′ : List ℕ} → DeliverResult (takes r piece out) piece d out′ → DeliverResult (deliver r piece out) piece d out′
     unfolding deliver
     delivers-takes h x =
         let z : roomIn r ≤ length out = rw (← room-is) h in

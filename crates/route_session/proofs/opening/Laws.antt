@@ -26,7 +26,7 @@ use Rattle.route_session.specs.declared.calls.Route.{Route}
 use Rattle.route_session.specs.declared.calls.Opened.{Opened}
 use Rattle.route_session.proofs.calls.Laws.{written}
 use Rattle.route_session.specs.opening.First.{freshSpot, openedAt}
-use Rattle.route_session.specs.calls.Calls.{Call, refusal, emptyRoute, begunWith, begins, openBy, sizeAnswer, opening, opened, Opens}
+use Rattle.route_session.specs.calls.Calls.{Call, refusal, emptyRoute, begunWith, begins, openBy, sizeAnswer, opening, opened, OpenResult}
 
 -- ---- the size of a route
 
@@ -67,7 +67,7 @@ size-has count out = go (eqb count 0) (ltb 8 count) (ltb out (1024 * count)) ref
 -- ---- the first proxy begun
 
 pub begins-as : (hops : List Hop) (count : ℕ) (bytes out : List ℕ) (s : Spot) → s ≡ begunSpot hops (freshSpot count) (s .sent) → {out′ : List ℕ} → Wrote out 0 (goesAt hops bytes (s .behind)) (s .sent) out′
-    → {r : Opened} → r ≡ openedAt hops count bytes s → Opens (begins (begunWith hops bytes count) (goesAt hops bytes (count - 1)) out) r out′
+    → {r : Opened} → r ≡ openedAt hops count bytes s → OpenResult (begins (begunWith hops bytes count) (goesAt hops bytes (count - 1)) out) r out′
 begins-as hops count bytes out s b {out′} w {r} q =
     let (l, o) = written w in
     let g : length (goesAt hops bytes (s .behind)) ≡ length (goesAt hops bytes (count - 1)) = ap (λ (x : Spot). length (goesAt hops bytes (x .behind))) b in
@@ -105,7 +105,7 @@ module _ (text : List ℕ) (ps : List Proxy) (eight : length ps ≡ 8) (count : 
   unfolding check
   check-is = size-first (checkInTurn (asked a)) ∙ unless (eqb count 0 || ltb 8 count) (ltb (length out) (roomFor count)) (checkInTurn (asked a))
 
-  pub opens-refused : {x : code.Answer} {e : SocksError} → x ≡ sizeAnswer count (length out) → x ≡ Refused e → {r : Opened} → r ≡ record { answer = Refused e; sent = 0; route = emptyRoute e } → Opens (opening a out) r out
+  pub opens-refused : {x : code.Answer} {e : SocksError} → x ≡ sizeAnswer count (length out) → x ≡ Refused e → {r : Opened} → r ≡ record { answer = Refused e; sent = 0; route = emptyRoute e } → OpenResult (opening a out) r out
   unfolding opening
   opens-refused {x} {e} s q {r} w =
       let z : check a (length out) ≡ Refused e = check-is ∙ ap (λ (y : code.Answer). unlessRefused y (checkInTurn (asked a))) (sym s ∙ q) in
@@ -113,11 +113,11 @@ module _ (text : List ℕ) (ps : List Proxy) (eight : length ps ≡ 8) (count : 
       record { returned = w ∙ ap opened (sym o); output = ap (λ (c : Call). c .output) (sym o); inside = rw w (omega arith) }
 
   pub opens-sized : {x : code.Answer} → x ≡ sizeAnswer count (length out) → x ≡ Accepted → {r : Opened} {out′ : List ℕ}
-      → Opens (openBy (checkInTurn (askedOf (proxiesOf text (take count ps)) host port)) (map openingFor (askedOf (proxiesOf text (take count ps)) host port)) out) r out′ → Opens (opening a out) r out′
+      → OpenResult (openBy (checkInTurn (askedOf (proxiesOf text (take count ps)) host port)) (map openingFor (askedOf (proxiesOf text (take count ps)) host port)) out) r out′ → OpenResult (opening a out) r out′
   unfolding opening
   opens-sized {x} s q {r} {out′} w =
       let t = sym s ∙ q in
       let m = size-has count (length out) t .1 .0 in
       let z : check a (length out) ≡ checkInTurn (asked a) = check-is ∙ ap (λ (y : code.Answer). unlessRefused y (checkInTurn (asked a))) t in
       let k : askedOf (proxiesOf text (take count ps)) host port ≡ asked a = ap (λ (l : List Proxy). askedOf (proxiesOf text l) host port) (sym (counted-few ps count m)) in
-      subst (λ (c : Call). Opens c r out′) ((λ i. openBy (checkInTurn (k i)) (map openingFor (k i)) out) ∙ ap (λ (y : code.Answer). openBy y (openings a) out) (sym z)) w
+      subst (λ (c : Call). OpenResult c r out′) ((λ i. openBy (checkInTurn (k i)) (map openingFor (k i)) out) ∙ ap (λ (y : code.Answer). openBy y (openings a) out) (sym z)) w

@@ -25,7 +25,7 @@ use Rattle.route_spec.specs.Route.{hostOf, portOf, Asked, over5, over4, askedBy
 use Rattle.route_spec.proofs.Asked.{asked-each}
 use Rattle.route_session.specs.declared.plan.Proxy.{Proxy}
 use Rattle.route_session.specs.declared.plan.Planned.{Planned}
-use Rattle.route_session.specs.plan.Plan.{partOf, proxyOf, proxiesOf, noProxy, preparedFor, IsPrepared, keptHop, hopFor, hopsFor, bytesFor, endsWith, Plans}
+use Rattle.route_session.specs.plan.Plan.{partOf, proxyOf, proxiesOf, noProxy, preparedFor, IsPrepared, keptHop, hopFor, hopsFor, bytesFor, endsWith, PlanResult}
 
 -- ---- a part of a text
 
@@ -136,7 +136,7 @@ module _ (a : Asked) (later : List Asked) (hops : List Hop) (bytes : List ℕ) (
       ∙ bytes-from hops bytes eight whole (openingFor a) (length later) few (r .session .requests .bytes) long (ap (λ (x : Prepared). x .session .requests .bytes) (kept-is e))
 
   -- an opening that is refused, or the last
-  pub plans-last : (r .answer ≡ Accepted → later ≡ []) → Plans (a ∷ later) hops bytes (record { answer = r .answer; hops = kept }) bytes₁
+  pub plans-last : (r .answer ≡ Accepted → later ≡ []) → PlanResult (a ∷ later) hops bytes (record { answer = r .answer; hops = kept }) bytes₁
   unfolding checkInTurn hopsFor bytesFor
   plans-last f =
       record {
@@ -154,7 +154,7 @@ module _ (a : Asked) (later : List Asked) (hops : List Hop) (bytes : List ℕ) (
       go (Refused x) e = e
 
   -- the others are kept below it
-  pub plans-more : r .answer ≡ Accepted → {s : Planned} {bytes₂ : List ℕ} → Plans later kept bytes₁ s bytes₂ → Plans (a ∷ later) hops bytes s bytes₂
+  pub plans-more : r .answer ≡ Accepted → {s : Planned} {bytes₂ : List ℕ} → PlanResult later kept bytes₁ s bytes₂ → PlanResult (a ∷ later) hops bytes s bytes₂
   unfolding checkInTurn hopsFor bytesFor
   plans-more e {s} {bytes₂} v =
       record {
@@ -190,10 +190,10 @@ module _ (proxies : List Proxy) (eight : length proxies ≡ 8) (at count : ℕ) 
   w′ : bytes₁ ≡ overwrite bytes (1024 * length others) (r .session .requests .bytes)
   w′ = w ∙ ap (λ (n : ℕ). overwrite bytes (1024 * n) (r .session .requests .bytes)) (sym index)
 
-  pub plan-stops : endsWith (r .answer) (at + 1) count ≡ true → Plans (askedOf (proxiesOf text (drop at (take count proxies))) host port) hops bytes (record { answer = r .answer; hops = kept }) bytes₁
+  pub plan-stops : endsWith (r .answer) (at + 1) count ≡ true → PlanResult (askedOf (proxiesOf text (drop at (take count proxies))) host port) hops bytes (record { answer = r .answer; hops = kept }) bytes₁
   unfolding askedOf
   plan-stops e =
-      subst (λ (x : List Asked). Plans x hops bytes (record { answer = r .answer; hops = kept }) bytes₁) (sym from-is)
+      subst (λ (x : List Asked). PlanResult x hops bytes (record { answer = r .answer; hops = kept }) bytes₁) (sym from-is)
       (plans-last here others hops bytes full whole (omega (arith, index)) is long k′ w′ (λ f. none-left (ap (λ (x : code.Answer). endsWith x (at + 1) count) (sym f) ∙ e)))
     where
       none-left : leb count (at + 1) ≡ true → others ≡ []
@@ -209,8 +209,8 @@ module _ (proxies : List Proxy) (eight : length proxies ≡ 8) (at count : ℕ) 
   plan-goes e = accepted-if (r .answer) e .1
 
   pub plan-more : endsWith (r .answer) (at + 1) count ≡ false → {s : Planned} {bytes₂ : List ℕ}
-      → Plans (askedOf (proxiesOf text (drop (at + 1) (take count proxies))) host port) kept bytes₁ s bytes₂ → Plans (askedOf (proxiesOf text (drop at (take count proxies))) host port) hops bytes s bytes₂
+      → PlanResult (askedOf (proxiesOf text (drop (at + 1) (take count proxies))) host port) kept bytes₁ s bytes₂ → PlanResult (askedOf (proxiesOf text (drop at (take count proxies))) host port) hops bytes s bytes₂
   plan-more e {s} {bytes₂} v =
-      subst (λ (x : List Asked). Plans x hops bytes s bytes₂) (sym from-is)
+      subst (λ (x : List Asked). PlanResult x hops bytes s bytes₂) (sym from-is)
       (plans-more here others hops bytes full whole (omega (arith, index)) is long k′ w′ (accepted-if (r .answer) e .0)
-      (subst (λ (n : ℕ). Plans (askedOf (proxiesOf text (drop n (take count proxies))) host port) kept bytes₁ s bytes₂) (add-one at) v))
+      (subst (λ (n : ℕ). PlanResult (askedOf (proxiesOf text (drop n (take count proxies))) host port) kept bytes₁ s bytes₂) (add-one at) v))

@@ -179,7 +179,7 @@ end r =
 abbrev pub opened : Call → Opened
 opened c = record { answer = c .answer; sent = c .sent; route = c .session }
 
-pub record Opens (c : Call) (r : Opened) (out′ : List ℕ) : Type 0 where
+pub record OpenResult (c : Call) (r : Opened) (out′ : List ℕ) : Type 0 where
   pub returned : r ≡ opened c
   pub output : out′ ≡ c .output
   pub inside : r .sent ≤ length out′
@@ -187,7 +187,7 @@ pub record Opens (c : Call) (r : Opened) (out′ : List ℕ) : Type 0 where
 abbrev pub delivered : Call → Delivered
 delivered c = record { answer = c .answer; used = c .used; sent = c .sent; route = c .session }
 
-pub record Delivers (c : Call) (piece : List ℕ) (r : Delivered) (out′ : List ℕ) : Type 0 where
+pub record DeliverResult (c : Call) (piece : List ℕ) (r : Delivered) (out′ : List ℕ) : Type 0 where
   pub returned : r ≡ delivered c
   pub output : out′ ≡ c .output
   pub inside : r .sent ≤ length out′

@@ -105,7 +105,7 @@ endsWith Accepted next count = leb count next
 endsWith (Refused e) next count = true
 
 -- what is answered, and if all are accepted what the arrays have at their start; what stood behind it stays
-pub record Plans (asks : List Asked) (hops : List Hop) (bytes : List ℕ) (r : Planned) (bytes′ : List ℕ) : Type 0 where
+pub record PlanResult (asks : List Asked) (hops : List Hop) (bytes : List ℕ) (r : Planned) (bytes′ : List ℕ) : Type 0 where
   pub answered : r .answer ≡ checkInTurn asks
   pub hopped : r .answer ≡ Accepted → r .hops ≡ hopsFor (map openingFor asks) ++ drop (length asks) hops
   pub filled : r .answer ≡ Accepted → bytes′ ≡ bytesFor (map openingFor asks) ++ drop (1024 * length asks) bytes
