@@ -1,6 +1,8 @@
 // Standard input: a piece as a read gives it, or bytes kept in a lent buffer until they are read.
 use libc::STDIN_FILENO;
 use places::byte_at;
+use places::number_at;
+use places::part;
 use places::store;
 ghost use Prim.Native.Nat.{_≤_};
 ghost use lib.ListN.{length};
@@ -48,7 +50,7 @@ fn fill(buffer: &mut [u8], held: usize) -> usize {
 }
 
 // At least n unread bytes, or all that the input has.
-pub fn want(input: Input, buffer: &mut [u8], n: usize) -> Input {
+fn want(input: Input, buffer: &mut [u8], n: usize) -> Input {
     let at = input.at;
     let end = input.end;
     if input.ended || (at <= end && n <= end - at) {
@@ -61,4 +63,11 @@ pub fn want(input: Input, buffer: &mut [u8], n: usize) -> Input {
         end: stop,
         ended: stop < buffer.len(),
     }
+}
+
+// A whole unread text, its length first, or all that the input has.
+pub fn want_text(input: Input, buffer: &mut [u8]) -> Input {
+    let seen = want(input, buffer, 2);
+    let size = number_at(part(buffer, seen.at, seen.end), 0);
+    want(seen, buffer, 2 + size as usize)
 }

@@ -17,10 +17,8 @@ use report::put_byte;
 use report::put_bytes;
 use tally::KEPT;
 
-// The largest frame.
-const FRAME: usize = 65537;
-
-const INPUT: usize = 131072;
+// More than the largest frame.
+const INPUT: usize = 73728;
 
 const TEXT: usize = 16384;
 
@@ -62,7 +60,7 @@ struct Stand {
 // The next frame, if there is one.
 fn turn(stand: Stand, buffer: &mut [u8], kept: &mut [u8], text: &mut [u8]) -> Stand {
     let writer = stand.writer;
-    let input = input::want(stand.input, buffer, FRAME);
+    let input = input::want_text(stand.input, buffer);
     let unread = part(buffer, input.at, input.end);
     if unread.len() == 0 {
         return Stand {

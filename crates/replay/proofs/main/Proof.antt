@@ -8,7 +8,7 @@ pub main-spec : {M : Type 1} → statement M
 main-spec =
     tie.close
     (tie.spec
-    (λ c. sym (length-replicate {A = ℕ} 131072 0))
+    (λ c. sym (length-replicate {A = ℕ} 73728 0))
     (λ c. sym (length-replicate {A = ℕ} 83968 0))
     (λ c. sym (length-replicate {A = ℕ} 16384 0))
     (λ c κs. tt)
