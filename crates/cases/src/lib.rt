@@ -278,9 +278,24 @@ pub fn lent_at(s: &[u8], at: usize) -> usize {
     n
 }
 
+// The place of what is wanted in a case of a stream: behind its opening, or its route and the proxy.
+pub fn wanted_at(s: &[u8]) -> usize {
+    let of = byte_at(s, 1);
+    if of == b'S' {
+        return opening_end(s, 2);
+    }
+    if of == b'R' {
+        return past(s, proxies_end(s, target_at(s, 2).proxies), 1);
+    }
+    NOWHERE
+}
+
 // The place of a case's calls; of one that has none, its end.
 pub fn calls_at(s: &[u8]) -> usize {
     let kind = byte_at(s, 0);
+    if kind == b'E' {
+        return past(s, wanted_at(s), 4);
+    }
     if kind == b'S' {
         return opening_end(s, 1);
     }

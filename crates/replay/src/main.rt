@@ -2,6 +2,7 @@
 mod proxies;
 mod routes;
 mod sessions;
+mod streams;
 mod tally;
 mod texts;
 
@@ -33,6 +34,9 @@ fn run_case(s: &[u8], writer: Writer, kept: &mut [u8], text: &mut [u8]) -> Write
     }
     if kind == b'P' {
         return proxies::run(s, writer, kept, text);
+    }
+    if kind == b'E' {
+        return streams::run(s, writer, kept, text);
     }
     if kind == b'A' {
         return texts::put_address(text_at(s, 1), writer, text);
