@@ -91,11 +91,19 @@ impl Smaller<'_> {
             });
         }
         match &case.kind {
-            Kind::Session(opening) => fewer(&opening.records).into_iter().for_each(|list| {
-                self.add(|c| c.kind = Kind::Session(Opening { records: list, ..opening.clone() }));
+            Kind::Session(of) | Kind::Ending(Row::Session(of), _) => fewer(&of.records).into_iter().for_each(|list| {
+                self.add(|c| {
+                    if let Kind::Session(of) | Kind::Ending(Row::Session(of), _) = &mut c.kind {
+                        of.records = list;
+                    }
+                });
             }),
-            Kind::Route(route, lent) => fewer(&route.proxies).into_iter().for_each(|list| {
-                self.add(|c| c.kind = Kind::Route(Route { proxies: list, ..route.clone() }, *lent));
+            Kind::Route(of, _) | Kind::Ending(Row::Route(of, _), _) => fewer(&of.proxies).into_iter().for_each(|list| {
+                self.add(|c| {
+                    if let Kind::Route(of, _) | Kind::Ending(Row::Route(of, _), _) = &mut c.kind {
+                        of.proxies = list;
+                    }
+                });
             }),
             _ => {}
         }
