@@ -179,17 +179,15 @@ impl Figures {
     }
 
     fn ending(&mut self, of: &Row, wanted: &Wanted, line: &str) {
-        let (answer, stream) = line.split_once(' ').expect("two fields");
-        self.one("answers", answer);
-        if answer == "0" {
-            let status = if wanted.status == 0 { String::new() } else { format!(" {}", wanted.status) };
-            self.one("endings with statuses", format!("{}{status}", wanted.number));
-            self.most("streams' digits at most", stream.len());
+        self.one("answers", line.split(' ').next().unwrap_or_default());
+        if line.starts_with("0 ") {
+            self.one("endings with statuses", format!("{} {}", wanted.number, wanted.status));
         }
-        match of {
-            Row::Session(_) => self.one("of", "a session"),
-            Row::Route(route, _) => self.one("of", format!("{} proxies", route.proxies.len())),
-        }
+        let of = match of {
+            Row::Session(_) => "a session".into(),
+            Row::Route(route, _) => format!("{} proxies", route.proxies.len()),
+        };
+        self.one("endings of", of);
     }
 
     pub fn text(&self) -> String {
@@ -332,14 +330,13 @@ fn cut_short(program: &str, kind: u8, seed: u64) -> usize {
 
 // Every ending that can be asked for: as the machines are searched one by one. Answers how many differ.
 fn whole_rows() -> usize {
-    let (plain, with, four) = (base(5).of, base(5).flag(CREDENTIALS).of, base(4).of);
-    let rows: [&[&Opening]; 4] = [&[&plain, &with], &[&with, &four], &[&four, &plain], &[&four, &four, &four]];
+    let (plain, with, four) = (|| base(5).of, || base(5).flag(CREDENTIALS).of, || base(4).of);
+    let rows = [vec![plain(), with()], vec![with(), four()], vec![four(), plain()], vec![four(), four(), four()]];
     let mut wrong = 0;
-    for row in rows {
-        let row: Vec<Opening> = row.iter().map(|of| (*of).clone()).collect();
-        let whole = ending::whole(&row);
+    for row in &rows {
+        let whole = ending::whole(row);
         let all = (0..row.len() + 2).flat_map(|at| (0..=u16::MAX).map(move |n| (at, (n >> 8) as u8, n as u8)));
-        wrong += all.filter(|ending| ending::stream(&row, *ending).as_ref() != whole.get(ending)).count();
+        wrong += all.filter(|ending| ending::stream(row, *ending).as_ref() != whole.get(ending)).count();
     }
     println!("rows searched whole: {}, {wrong} endings differ", rows.len());
     wrong

@@ -238,20 +238,7 @@ fn served(calls: &[Call], line: &Line) -> Result<Teller, String> {
 
 // ---- endings
 
-// The stream and the end of stream as a case of its session or route.
-fn played(of: &Row, stream: &[u8]) -> Case {
-    let mut calls = vec![Call::Piece(MOST_LENT, stream.to_vec()), Call::End];
-    let kind = match of {
-        Row::Session(opening) => Kind::Session(opening.clone()),
-        Row::Route(route, _) => Kind::Route(route.clone(), MOST_LENT),
-    };
-    if let Kind::Session(_) = kind {
-        calls.insert(0, Call::Start(MOST_LENT));
-    }
-    Case { kind, calls }
-}
-
-// Replies at random: where they end, a stream is found, and it is not behind what they used.
+// Replies at random: for where they end a stream is found, and it is not behind what they used.
 fn not_behind(row: &[Opening], r: &mut Random) -> Result<(), String> {
     let fails = r.below(row.len() + 1);
     let each = row.iter().zip(0..).map(|(o, i)| if i < fails { bound_replies(r, o, false) } else { replies(r, o) });
@@ -266,22 +253,26 @@ fn not_behind(row: &[Opening], r: &mut Random) -> Result<(), String> {
     }
 }
 
-// What is found ends as is wanted, by the original too; what a row is refused with is what a session or route is.
+// What is found, and end of stream behind it, as a case of its session or route: it ends as is wanted, by the original
+// too.
 fn ended(of: &Row, wanted: &Wanted, r: &mut Random) -> Result<Teller, String> {
-    let (row, proxy) = ending::row(of);
-    if ending::row_check(of) != 0 {
-        return expect(&played(of, &[])).map(|(_, teller)| teller);
-    }
-    (0..4).try_for_each(|_| not_behind(&row, r))?;
-    let Some(stream) = ending::wanted_stream(of, wanted) else {
+    let Ok((row, at)) = ending::row(of) else {
         return Ok(Teller::Model);
     };
-    let case = played(of, &stream);
-    let ends = (ending::ends(&row, &stream), model::line(&case).outcome);
-    if ends != (((proxy, wanted.number, wanted.status), stream.len()), Outcome::Settled(wanted.number)) {
+    (0..4).try_for_each(|_| not_behind(&row, r))?;
+    let ending = (at, wanted.number, wanted.status);
+    let Some(stream) = ending::stream(&row, ending) else {
+        return Ok(Teller::Model);
+    };
+    if ending::ends(&row, &stream) != (ending, stream.len()) {
         return Err(format!("{} ends otherwise", hex(&stream)));
     }
-    expect(&case).map(|(_, teller)| teller)
+    let calls = [Call::Start(MOST_LENT), Call::Piece(MOST_LENT, stream), Call::End];
+    let (kind, calls) = match of {
+        Row::Session(opening) => (Kind::Session(opening.clone()), &calls[..]),
+        Row::Route(route, _) => (Kind::Route(route.clone(), MOST_LENT), &calls[1..]),
+    };
+    expect(&Case { kind, calls: calls.to_vec() }).map(|(_, teller)| teller)
 }
 
 // ---- all kinds

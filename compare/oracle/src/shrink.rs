@@ -98,13 +98,15 @@ impl Smaller<'_> {
                     }
                 });
             }),
-            Kind::Route(of, _) | Kind::Ending(Row::Route(of, _), _) => fewer(&of.proxies).into_iter().for_each(|list| {
-                self.add(|c| {
-                    if let Kind::Route(of, _) | Kind::Ending(Row::Route(of, _), _) = &mut c.kind {
-                        of.proxies = list;
-                    }
-                });
-            }),
+            Kind::Route(of, _) | Kind::Ending(Row::Route(of, _), _) => {
+                fewer(&of.proxies).into_iter().for_each(|list| {
+                    self.add(|c| {
+                        if let Kind::Route(of, _) | Kind::Ending(Row::Route(of, _), _) = &mut c.kind {
+                            of.proxies = list;
+                        }
+                    });
+                })
+            }
             _ => {}
         }
         self.parts(true);

@@ -3,7 +3,7 @@
 use super::{route, session};
 use crate::case::*;
 use crate::draw::Random;
-use crate::model::ending::{row_check, wanted_stream};
+use crate::model::ending;
 
 // Those that some stream leads to.
 const MET: [u8; 9] = [0, 9, 10, 12, 13, 14, 15, 15, 15];
@@ -42,8 +42,8 @@ fn routed(r: &mut Random) -> Row {
 }
 
 fn lent(r: &mut Random, of: &Row, wanted: &Wanted) -> u16 {
-    let stream = if row_check(of) == 0 { wanted_stream(of, wanted) } else { None };
-    let n = stream.map_or(r.below(20), |stream| stream.len()) as u16;
+    let stream = ending::row(of).ok().and_then(|(row, at)| ending::stream(&row, (at, wanted.number, wanted.status)));
+    let n = stream.map_or(8, |stream| stream.len() as u16);
     match r.below(4) {
         0 => r.one_of(&[0, 1, 9215, 9216, 9217, 65535]),
         1 => r.below(usize::from(n) + 2) as u16,

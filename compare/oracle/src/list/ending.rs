@@ -1,73 +1,54 @@
-//! Streams for endings, request F-12, in the kept list: every number, wanted or refused with, at both versions; routes,
-//! the proxies at which they end, buffers around the stream's length.
+//! Streams for endings, request F-12, in the kept list: every number, wanted or refused with, over both versions; the
+//! proxies at which routes end; buffers around the stream's length. Behind them frames that hold no such case.
 use super::session::unprepared;
 use super::{Kept, orders, route};
 use crate::case::*;
 use crate::draft::*;
-use crate::model::ending::wanted_stream;
+use crate::model::ending::{row, stream};
 
-// ---- cases written short
+// An outcome and a status: one of each number that a stream leads to, and a status of each version.
+const MET: [(u8, u8); 9] = [(0, 0), (9, 0), (10, 0), (12, 0), (13, 0), (14, 0), (15, 1), (15, 8), (15, 91)];
 
 fn case(of: &Row, (number, status): (u8, u8), lent: u16) -> Case {
     Case { kind: Kind::Ending(of.clone(), Wanted { number, status, lent }), calls: vec![] }
 }
 
-// As `route::chain` has it.
+// A proxy as `route::chain` has it, asked for a.example.
 fn session(word: &str) -> Row {
     let proxy = route::chain(word).of.proxies.remove(0);
     Row::Session(Opening { host: b"a.example".to_vec(), port: 443, ..proxy })
 }
 
-fn chain(text: &str, proxy: u8) -> Row {
-    Row::Route(route::chain(text).of, proxy)
+fn chain(text: &str, at: u8) -> Row {
+    Row::Route(route::chain(text).of, at)
 }
 
-// One of each number that a stream leads to, and a status of each version.
-const MET: [(u8, u8); 9] = [(0, 0), (9, 0), (10, 0), (12, 0), (13, 0), (14, 0), (15, 1), (15, 8), (15, 91)];
-
-// ---- parts
-
-// Each number of the papers and some beside.
-fn numbers(list: &mut Kept) {
+fn sessions(list: &mut Kept) {
     for word in ["5", "5c", "4"] {
-        for number in (0..=27).chain([255]) {
-            list.put(case(&session(word), (number, 0), 64));
-        }
+        let numbers = (0..=27).chain([255]).map(|number| (number, 0));
+        let statuses = (1..=9).chain(89..=94).chain([255]).map(|status| (15, status));
+        let none = [(0, 1), (0, 90), (9, 1), (10, 8), (12, 255), (13, 2), (14, 1)];
+        numbers.chain(statuses).chain(none).for_each(|wanted| list.put(case(&session(word), wanted, 64)));
     }
     for word in ["5o", "5co", "4co"] {
         MET.iter().for_each(|wanted| list.put(case(&session(word), *wanted, 64)));
     }
 }
 
-// With 15: those of both versions and beside them. With others, none but 0.
-fn statuses(list: &mut Kept) {
-    for word in ["5c", "4"] {
-        for status in (1..=9).chain(89..=94).chain([255]) {
-            list.put(case(&session(word), (15, status), 9216));
-        }
-        for (number, status) in [(0, 1), (0, 90), (9, 1), (10, 8), (12, 255), (13, 2), (14, 1)] {
-            list.put(case(&session(word), (number, status), 64));
-        }
-    }
-}
-
-// One byte short, just enough, one more; nothing, and as much as can be said. None is ahead of 27.
+// Nothing, one byte short, just enough, one more, and as much as can be said. None is ahead of 27.
 fn lents(list: &mut Kept) {
-    let rows = ["5", "5c", "4"].map(session);
     let routes = [("5c 4", 2), ("4 5o 5c", 2), ("4 5co 4 5 5c 4 4 5", 8)].map(|(text, at)| chain(text, at));
-    for of in rows.into_iter().chain(routes) {
+    for of in ["5", "5c", "4"].map(session).into_iter().chain(routes) {
         for (number, status) in [(0, 0), (9, 0), (10, 0), (15, 2), (14, 0)] {
-            let wanted = Wanted { number, status, lent: 0 };
-            let n = wanted_stream(&of, &wanted).map_or(0, |stream| stream.len() as u16);
-            for lent in [0, n.saturating_sub(1), n, n + 1] {
-                list.put(case(&of, (number, status), lent));
-            }
+            let found = row(&of).ok().and_then(|(row, at)| stream(&row, (at, number, status)));
+            let n = found.map_or(0, |stream| stream.len() as u16);
+            [0, n.max(1) - 1, n, n + 1].iter().for_each(|lent| list.put(case(&of, (number, status), *lent)));
         }
         list.put(case(&of, (10, 0), 65535));
     }
 }
 
-// Every ending at every proxy, at none and behind the last.
+// At every proxy, at none and behind the last.
 fn proxies(list: &mut Kept) {
     for (text, places) in [
         ("5", &[0, 1, 2][..]),
@@ -78,62 +59,48 @@ fn proxies(list: &mut Kept) {
         ("5co 4 5c 4 5 5o 4 5", &[3, 8, 9]),
     ] {
         for at in places {
-            for wanted in MET {
-                list.put(case(&chain(text, *at), wanted, 200));
-            }
+            MET.iter().for_each(|wanted| list.put(case(&chain(text, *at), *wanted, 200)));
         }
     }
 }
 
-// ---- refused
-
+// Whatever is wanted and lent; in a route ahead of the proxy to end at, there, behind it, and where that is lacking.
 fn refused(list: &mut Kept) {
     for opening in unprepared() {
-        for wanted in [(0, 0), (14, 0)] {
-            list.put(case(&Row::Session(opening.of.clone()), wanted, 64));
-        }
+        let of = Row::Session(opening.of);
+        [(0, 0), (14, 0)].iter().for_each(|wanted| list.put(case(&of, *wanted, 0)));
     }
-    // whatever is wanted, and whatever is lent
-    for n in [0, 9, 10] {
-        for (at, wanted, lent) in [(1, (0, 0), 64), (0, (0, 0), 64), (n, (14, 0), 0)] {
-            list.put(case(&Row::Route(route::many(n.into()).of, at), wanted, lent));
-        }
+    for (n, at) in [(0, 0), (0, 1), (9, 0), (9, 1), (9, 9), (10, 10)] {
+        list.put(case(&Row::Route(route::many(n).of, at), (0, 0), 64));
     }
-    // at the proxy asked for, behind it, ahead of it, and beside one that the route lacks
     for (text, numbers) in [("5 5 5", &[2, 3, 4, 5, 6][..]), ("4 4 4", &[2, 3, 4, 6, 7, 23])] {
         for number in numbers {
             let of = route::refused(&route::chain(text), 2, *number).of;
-            for (at, wanted) in [(1, (10, 0)), (2, (9, 0)), (3, (0, 0)), (9, (0, 0))] {
-                list.put(case(&Row::Route(of.clone(), at), wanted, 0));
-            }
+            [3, 2, 1, 9].iter().for_each(|at| list.put(case(&Row::Route(of.clone(), *at), (10, 0), 0)));
         }
     }
-    let of = route::refused(&route::refused(&route::chain("5 4 5"), 1, 3), 2, 2).of;
-    list.put(case(&Row::Route(of, 3), (0, 0), 64));
+    let twice = route::refused(&route::refused(&route::chain("5 4 5"), 1, 3), 2, 2).of;
+    list.put(case(&Row::Route(twice, 3), (0, 0), 64));
 }
 
 pub fn add(list: &mut Kept) {
-    list.parts(&[numbers, statuses, lents, proxies, refused]);
+    list.parts(&[sessions, lents, proxies, refused]);
 }
 
-// ---- frames that hold no case
-
-// Each start of a case, bytes left over, and other letters, versions and families.
+// Each start of a case, bytes left over, other letters, versions and families; and a good frame.
 pub fn bad() -> Vec<Vec<u8>> {
-    let mut opening = base(5).of;
-    opening.records = vec![(4, [2; 16])];
+    let opening = Opening { records: vec![(4, [2; 16])], ..base(5).of };
     let mut all = vec![];
-    for of in [Row::Session(opening), chain("5c 4", 2)] {
+    for (of, family) in [(Row::Session(opening), 21), (chain("5c 4", 2), 0)] {
         let bytes = case(&of, (15, 1), 64).bytes();
         all.extend((1..bytes.len()).map(|n| bytes[..n].to_vec()));
         all.extend([&[0][..], &[255], b"e", &[0, 0], &bytes].map(|more| [&bytes, more].concat()));
         let changed = |place: usize, byte: u8| [&bytes[..place], &[byte], &bytes[place + 1..]].concat();
         all.extend([0, 4, 5, b'A', b'C', b'E', b'L', b'P', b's', b'r', 255].map(|letter| changed(1, letter)));
         all.extend([b'S', b'R', b'e', b'P'].map(|kind| changed(0, kind)));
-        if let Row::Session(_) = of {
-            all.extend([0, 3, 6, 255].map(|version| changed(2, version)));
-            let family = bytes.len() - 4 - 17;
-            all.extend([changed(family, 5), changed(family - 1, 0), changed(family - 1, 9)]);
+        if family > 0 {
+            let at = bytes.len() - family;
+            all.extend([changed(2, 3), changed(2, 6), changed(at, 5), changed(at - 1, 0), changed(at - 1, 9)]);
         }
     }
     all.push(orders::good().bytes());

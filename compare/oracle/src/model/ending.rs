@@ -10,26 +10,10 @@ use std::rc::Rc;
 // How a row of machines ends when end of stream follows: which was begun last, counted from 1, its outcome and status.
 pub type Ending = (usize, u8, u8);
 
-// Each ending that is reached, with the first stream that leads there.
+// Each ending that is met, with the first stream that leads there.
 type Found = HashMap<Ending, Vec<u8>>;
 
 // ---- states
-
-// What must follow the start of a character by RFC 3629 section 4: the next byte's least and greatest value, and how
-// many more behind it. Nothing is due behind whole characters.
-fn due(start: &[u8]) -> [usize; 3] {
-    match *start {
-        [] => [0; 3],
-        [0xE0] => [0xA0, 0xBF, 1],
-        [0xED] => [0x80, 0x9F, 1],
-        [0xF0] => [0x90, 0xBF, 2],
-        [0xF4] => [0x80, 0x8F, 2],
-        [first, ..] => {
-            let whole = [0xC0, 0xE0, 0xF0].iter().filter(|least| first >= **least).count();
-            [0x80, 0xBF, whole - start.len()]
-        }
-    }
-}
 
 // What an undecided reply still depends on: two that agree in it come to the same with whatever follows.
 #[derive(PartialEq, Eq, Hash)]
@@ -59,7 +43,7 @@ fn left(reply: Reply, held: &[u8]) -> Left {
         Reply::Connect => match byte(3) {
             1 => Any(10 - n, status),
             4 => Any(22 - n, status),
-            _ => in_name(7 + byte(4) - n, status, &held[5..held.len().min(5 + byte(4))]),
+            _ => in_name(7 + byte(4) - n, status, &held[5..n.min(5 + byte(4))]),
         },
     }
 }
@@ -69,13 +53,29 @@ fn in_name(left: usize, status: usize, name: &[u8]) -> Left {
     let whole = left <= 2;
     match std::str::from_utf8(name) {
         Ok(_) if whole => Any(left, status),
-        Ok(_) => Name(left, status, due(&[])),
+        Ok(_) => Name(left, status, [0; 3]),
         Err(e) if whole || e.error_len().is_some() => Bad(left),
         Err(e) => Name(left, status, due(&name[e.valid_up_to()..])),
     }
 }
 
+// Behind the start of a character, by RFC 3629 section 4: the next byte's least and greatest value, and how many more.
+fn due(start: &[u8]) -> [usize; 3] {
+    match *start {
+        [0xE0] => [0xA0, 0xBF, 1],
+        [0xED] => [0x80, 0x9F, 1],
+        [0xF0] => [0x90, 0xBF, 2],
+        [0xF4] => [0x80, 0x8F, 2],
+        _ => [0x80, 0xBF, [0xC0, 0xE0, 0xF0].iter().filter(|least| start[0] >= **least).count() - start.len()],
+    }
+}
+
 // ---- the search
+
+fn ending(begun: &[State]) -> Ending {
+    let last = &begun[begun.len() - 1];
+    (begun.len(), last.outcome.unwrap_or(9), last.status)
+}
 
 // A state is the machine, the reply that it awaits and what that still depends on. Of the streams to a state the first
 // is kept: with the same bytes behind it, it stays ahead of the others. A settled machine reads no further, so the
@@ -83,21 +83,20 @@ fn in_name(left: usize, status: usize, name: &[u8]) -> Left {
 fn search(row: &[Vec<Reply>]) -> Found {
     let plans: Vec<Vec<Step>> = row.iter().map(|all| all.iter().copied().map(Step::Expect).collect()).collect();
     let (mut found, mut met) = (Found::from([((1, 9, 0), vec![])]), HashSet::new());
-    // of one length, in the order of their bytes: the machine and the reply, where that begins, and the stream
-    let mut waiting = vec![((1, 0), 0, vec![])];
+    // of one length, in the order of their bytes: the stream, its machine and reply, and where that begins
+    let mut waiting = vec![(vec![], (1, 0), 0)];
     while !waiting.is_empty() {
         let mut longer = vec![];
-        for (before, begins, mut stream) in waiting {
+        for (mut stream, before, begins) in waiting {
             for byte in 0..=255 {
                 stream.push(byte);
                 let begun = in_turn(&plans, &stream);
                 found.entry(ending(&begun)).or_insert_with(|| stream.clone());
-                let now = ((begun.len(), begun[begun.len() - 1].decided), begun[begun.len() - 1].outcome);
-                if let ((machine, reply), None) = now {
-                    let begins = if now.0 == before { begins } else { stream.len() };
-                    if met.insert((now.0, left(row[machine - 1][reply], &stream[begins..]))) {
-                        longer.push((now.0, begins, stream.clone()));
-                    }
+                let last = &begun[begun.len() - 1];
+                let now = (begun.len(), last.decided);
+                let begins = if now == before { begins } else { stream.len() };
+                if last.outcome.is_none() && met.insert((now, left(row[now.0 - 1][now.1], &stream[begins..]))) {
+                    longer.push((stream.clone(), now, begins));
                 }
                 stream.pop();
             }
@@ -107,10 +106,7 @@ fn search(row: &[Vec<Reply>]) -> Found {
     found
 }
 
-fn ending(begun: &[State]) -> Ending {
-    let last = &begun[begun.len() - 1];
-    (begun.len(), last.outcome.unwrap_or(9), last.status)
-}
+// ---- a row
 
 fn replies(opening: &Opening) -> Vec<Reply> {
     let expected = |step| if let Step::Expect(reply) = step { Some(reply) } else { None };
@@ -121,33 +117,22 @@ thread_local! {
     static FOUND: RefCell<HashMap<Vec<Reply>, Rc<Found>>> = RefCell::default();
 }
 
-// Of one machine; what it sends changes nothing of it.
-fn found(opening: &Opening) -> Rc<Found> {
+// By one machine; what it sends changes nothing of it.
+fn alone(opening: &Opening, number: u8, status: u8) -> Option<Vec<u8>> {
     let row = replies(opening);
-    FOUND.with_borrow_mut(|all| all.entry(row.clone()).or_insert_with(|| Rc::new(search(&[row]))).clone())
-}
-
-// ---- a row
-
-// Where the replies end a row, and how many of their bytes it uses.
-pub fn ends(row: &[Opening], stream: &[u8]) -> (Ending, usize) {
-    let begun = in_turn(&row.iter().map(plan).collect::<Vec<_>>(), stream);
-    (ending(&begun), begun.iter().map(|now| now.used).sum())
+    let found = FOUND.with_borrow_mut(|all| all.entry(row.clone()).or_insert_with(|| Rc::new(search(&[row]))).clone());
+    found.get(&(1, number, status)).cloned()
 }
 
 // Where a machine is begun there is one state, nothing being held. So the search over the row goes on from the first
 // stream to it as the search over that machine alone does, which is made once.
-pub fn stream(row: &[Opening], (proxy, number, status): Ending) -> Option<Vec<u8>> {
-    let (last, before) = row.get(..proxy)?.split_last()?;
-    if number == 0 && proxy < row.len() {
+pub fn stream(row: &[Opening], (at, number, status): Ending) -> Option<Vec<u8>> {
+    let (last, before) = row.get(..at)?.split_last()?;
+    if number == 0 && at < row.len() {
         return None;
     }
-    let mut all = vec![];
-    for opening in before {
-        all.extend(found(opening).get(&(1, 0, 0))?);
-    }
-    all.extend(found(last).get(&(1, number, status))?);
-    Some(all)
+    let all = before.iter().map(|opening| alone(opening, 0, 0)).chain([alone(last, number, status)]);
+    Some(all.collect::<Option<Vec<_>>>()?.concat())
 }
 
 // Every ending that the search over the whole row meets.
@@ -155,35 +140,28 @@ pub fn whole(row: &[Opening]) -> Found {
     search(&row.iter().map(replies).collect::<Vec<_>>())
 }
 
+// Where these replies end a row, and how many of their bytes it uses.
+pub fn ends(row: &[Opening], stream: &[u8]) -> (Ending, usize) {
+    let begun = in_turn(&row.iter().map(plan).collect::<Vec<_>>(), stream);
+    (ending(&begun), begun.iter().map(|now| now.used).sum())
+}
+
 // ---- a case
 
-pub fn row(of: &Row) -> (Vec<Opening>, usize) {
-    match of {
-        Row::Session(opening) => (vec![opening.clone()], 1),
-        Row::Route(route, proxy) => (openings(route), usize::from(*proxy)),
-    }
-}
-
-pub fn row_check(of: &Row) -> u8 {
-    match of {
-        Row::Session(opening) => prepare(opening),
-        Row::Route(route, _) => route_check(route, MOST_LENT),
-    }
-}
-
-// Of an accepted row.
-pub fn wanted_stream(of: &Row, wanted: &Wanted) -> Option<Vec<u8>> {
-    let (openings, proxy) = row(of);
-    stream(&openings, (proxy, wanted.number, wanted.status))
+// The openings and the one to end at, or the number of the first check that refuses.
+pub fn row(of: &Row) -> Result<(Vec<Opening>, usize), u8> {
+    let (number, row) = match of {
+        Row::Session(opening) => (prepare(opening), (vec![opening.clone()], 1)),
+        Row::Route(route, at) => (route_check(route, MOST_LENT), (openings(route), usize::from(*at))),
+    };
+    if number == 0 { Ok(row) } else { Err(number) }
 }
 
 pub fn text(of: &Row, wanted: &Wanted) -> String {
-    match (row_check(of), || wanted_stream(of, wanted)) {
-        (0, found) => match found() {
-            None => "none -".into(),
-            Some(stream) if stream.len() > lent(wanted.lent) => "27 -".into(),
-            Some(stream) => format!("0 {}", hex(&stream)),
-        },
-        (number, _) => format!("{number} -"),
+    match row(of).map(|(row, at)| stream(&row, (at, wanted.number, wanted.status))) {
+        Err(number) => format!("{number} -"),
+        Ok(None) => "none -".into(),
+        Ok(Some(stream)) if stream.len() > lent(wanted.lent) => "27 -".into(),
+        Ok(Some(stream)) => format!("0 {}", hex(&stream)),
     }
 }
