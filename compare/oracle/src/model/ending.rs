@@ -82,7 +82,7 @@ fn ending(begun: &[State]) -> Ending {
 // search ends when no new state waits; an ending that it has not met has no stream.
 fn search(row: &[Vec<Reply>]) -> Found {
     let plans: Vec<Vec<Step>> = row.iter().map(|all| all.iter().copied().map(Step::Expect).collect()).collect();
-    let (mut found, mut met) = (Found::from([((1, 9, 0), vec![])]), HashSet::new());
+    let (mut found, mut met) = (Found::from([(ending(&in_turn(&plans, &[])), vec![])]), HashSet::new());
     // of one length, in the order of their bytes: the stream, its machine and reply, and where that begins
     let mut waiting = vec![(vec![], (1, 0), 0)];
     while !waiting.is_empty() {
