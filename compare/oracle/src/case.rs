@@ -61,6 +61,22 @@ pub enum Call {
     Answer(u16, Answer),
 }
 
+// What is to end.
+#[derive(Clone, PartialEq)]
+pub enum Row {
+    Session(Opening),
+    // at this proxy, counted from 1
+    Route(Route, u8),
+}
+
+// The outcome and status, and the buffer lent to the stream.
+#[derive(Clone, PartialEq)]
+pub struct Wanted {
+    pub number: u8,
+    pub status: u8,
+    pub lent: u16,
+}
+
 #[derive(Clone, PartialEq)]
 pub enum Kind {
     // A, H or U
@@ -69,6 +85,7 @@ pub enum Kind {
     // with what is lent to its opening
     Route(Route, u16),
     End(SetUp),
+    Ending(Row, Wanted),
 }
 
 #[derive(Clone, PartialEq)]
@@ -168,6 +185,27 @@ impl Opening {
     }
 }
 
+impl Route {
+    fn parts(&mut self) -> Vec<Part<'_>> {
+        let Route { flags, port, host, proxies } = self;
+        let mut all = vec![Flags(flags), Number(port, 443), Text(host, b'a'), Fixed(vec![proxies.len() as u8])];
+        all.extend(proxies.iter_mut().flat_map(|proxy| proxy.parts(false)));
+        all
+    }
+}
+
+impl Row {
+    fn parts(&mut self) -> Vec<Part<'_>> {
+        match self {
+            Row::Session(opening) => [Fixed(vec![b'S'])].into_iter().chain(opening.parts(true)).collect(),
+            Row::Route(route, proxy) => {
+                let proxy = Byte(proxy, &[1]);
+                [Fixed(vec![b'R'])].into_iter().chain(route.parts()).chain([proxy]).collect()
+            }
+        }
+    }
+}
+
 impl Call {
     fn parts(&mut self) -> Vec<Part<'_>> {
         let mut all = vec![Fixed(vec![self.letter()])];
@@ -191,6 +229,7 @@ impl Case {
             Kind::Session(_) => b'S',
             Kind::Route(..) => b'R',
             Kind::End(_) => b'P',
+            Kind::Ending(..) => b'E',
         }
     }
 
@@ -202,13 +241,17 @@ impl Case {
                 return all;
             }
             Kind::Session(opening) => all.extend(opening.parts(true)),
-            Kind::Route(Route { flags, port, host, proxies }, lent) => {
-                all.extend([Flags(flags), Number(port, 443), Text(host, b'a'), Fixed(vec![proxies.len() as u8])]);
-                all.extend(proxies.iter_mut().flat_map(|proxy| proxy.parts(false)));
+            Kind::Route(route, lent) => {
+                all.extend(route.parts());
                 all.push(Number(lent, MOST_LENT));
             }
             Kind::End(SetUp { flags, user, password }) => {
                 all.extend([Flags(flags), Text(user, b'a'), Text(password, b'a')]);
+            }
+            Kind::Ending(of, Wanted { number, status, lent }) => {
+                all.extend(of.parts());
+                all.extend([Byte(number, &[0]), Byte(status, &[0]), Number(lent, MOST_LENT)]);
+                return all;
             }
         }
         all.push(Fixed((self.calls.len() as u16).to_be_bytes().to_vec()));
@@ -297,6 +340,18 @@ fn route(left: &mut &[u8]) -> Option<Route> {
     Some(Route { flags, port, host, proxies })
 }
 
+fn row(left: &mut &[u8]) -> Option<Row> {
+    match byte(left)? {
+        b'S' => Some(Row::Session(opening(left)?)),
+        b'R' => Some(Row::Route(route(left)?, byte(left)?)),
+        _ => None,
+    }
+}
+
+fn wanted(left: &mut &[u8]) -> Option<Wanted> {
+    Some(Wanted { number: byte(left)?, status: byte(left)?, lent: number(left)? })
+}
+
 // Of these letters.
 fn call(left: &mut &[u8], of: &[u8]) -> Option<Call> {
     let letter = byte(left).filter(|letter| of.contains(letter))?;
@@ -320,6 +375,7 @@ impl Case {
             b'S' => (Kind::Session(opening(left)?), b"sdebt"),
             b'R' => (Kind::Route(route(left)?, number(left)?), b"det"),
             b'P' => (Kind::End(SetUp { flags: byte(left)?, user: text(left)?, password: text(left)? }), b"dea"),
+            b'E' => (Kind::Ending(row(left)?, wanted(left)?), b""),
             _ => return None,
         };
         let n = if letters.is_empty() { 0 } else { number(left)? };

@@ -1,9 +1,10 @@
 //! Cases of all kinds: the original and the model against each other, and `replay` against both.
 use crate::case::*;
+use crate::draft::base;
 use crate::draw::Random;
 use crate::expect::{Teller, expect};
 use crate::generate;
-use crate::model::{self, Line, Outcome};
+use crate::model::{self, Line, Outcome, ending};
 use crate::shrink::{Differs, shrink};
 use std::collections::BTreeMap;
 use std::io::Write;
@@ -56,10 +57,11 @@ pub fn ask(program: &str, cases: &[Case]) -> Vec<String> {
 
 // ---- the expected side
 
-// The line with one byte changed, if it has such: the last that was sent, or a text's answer.
+// The line with one byte changed, if it has such: the last that was sent, a stream's, or a text's answer.
 fn plant(case: &Case, line: &str) -> Option<String> {
     let mut fields: Vec<String> = line.split(' ').map(String::from).collect();
-    let field = if let Kind::Text(..) = case.kind { fields.last_mut() } else { fields.get_mut(2) }?;
+    let last = matches!(case.kind, Kind::Text(..) | Kind::Ending(..));
+    let field = if last { fields.last_mut() } else { fields.get_mut(2) }?;
     let last = field.pop().filter(|c| *c != '-')?;
     field.push(if last == '0' { '1' } else { '0' });
     Some(fields.join(" "))
@@ -135,13 +137,16 @@ impl Figures {
             let answer = if *letter == b'H' { "" } else { &model::text(case)[..1] };
             return self.one("texts", format!("{} {answer}", char::from(*letter)));
         }
-        let line = model::line(case);
         let by = match teller {
             Teller::Rust => "the Rust too",
             Teller::Beyond => "the model where the Rust ends with WouldOverflow",
             Teller::Model => "the model alone",
         };
         self.one("told by", by);
+        if let Kind::Ending(of, wanted) = &case.kind {
+            return self.ending(of, wanted, &model::text(case));
+        }
+        let line = model::line(case);
         self.one("checks", line.check);
         let status = if line.status == 0 { String::new() } else { format!(" {}", line.status) };
         self.one("outcomes with statuses", format!("{}{status}", line.outcome.text()));
@@ -171,6 +176,18 @@ impl Figures {
         if !matches!(case.kind, Kind::End(_)) {
             self.one("attempts above the accepted deliveries of nonempty pieces", excess(case, &line));
         }
+    }
+
+    fn ending(&mut self, of: &Row, wanted: &Wanted, line: &str) {
+        self.one("answers", line.split(' ').next().unwrap_or_default());
+        if line.starts_with("0 ") {
+            self.one("endings with statuses", format!("{} {}", wanted.number, wanted.status));
+        }
+        let of = match of {
+            Row::Session(_) => "a session".into(),
+            Row::Route(route, _) => format!("{} proxies", route.proxies.len()),
+        };
+        self.one("endings of", of);
     }
 
     pub fn text(&self) -> String {
@@ -275,7 +292,7 @@ fn damaged(program: &str, kind: u8, seed: u64, count: u64) -> usize {
             let at = if r.once_in(2) { r.below(bytes.len().min(60) + 1) } else { r.below(bytes.len() + 1) };
             let (before, behind) = bytes.split_at(at);
             let (there, behind) = behind.split_at(behind.len().min(6));
-            let other = r.damaged(there.to_vec(), b"\0\x01\x02\x04\x05\x06\x09sdebtawAHUSRP");
+            let other = r.damaged(there.to_vec(), b"\0\x01\x02\x04\x05\x06\x09sdebtawAHUSRPE");
             let bytes = match r.below(8) {
                 0 => before.to_vec(),
                 1 => [&bytes[..], &r.some_bytes(4)].concat(),
@@ -284,7 +301,7 @@ fn damaged(program: &str, kind: u8, seed: u64, count: u64) -> usize {
             frame(&bytes[..bytes.len().min(MOST_BYTES)])
         })
         // kinds that later requests bring
-        .filter(|frame| !matches!(frame.get(2), Some(b'L' | b'C' | b'E')))
+        .filter(|frame| !matches!(frame.get(2), Some(b'L' | b'C')))
         .collect();
     let read = frames.iter().filter(|frame| Case::read(&frame[2..]).is_some()).count();
     let mut lines = run(program, frames.concat()).into_iter();
@@ -297,8 +314,8 @@ fn damaged(program: &str, kind: u8, seed: u64, count: u64) -> usize {
 }
 
 // Every way that the input may end inside a frame: its first, behind a good one, and behind a bad one.
-fn endings(program: &str, kind: u8, seed: u64) -> usize {
-    let small = |case: &Case| case.bytes().len() < 120 && (kind == b'T' || case.calls.len() > 1);
+fn cut_short(program: &str, kind: u8, seed: u64) -> usize {
+    let small = |case: &Case| case.bytes().len() < 120 && (!generate::has_calls(kind) || case.calls.len() > 1);
     let case = (0..).map(|n| generate::case(kind, seed, n)).find(small).expect("a small case");
     let (good, bad) = (case.frame(), frame(b"X"));
     let behind =
@@ -306,6 +323,22 @@ fn endings(program: &str, kind: u8, seed: u64) -> usize {
     let ways: Vec<_> = (0..good.len()).flat_map(behind).collect();
     let wrong = ways.iter().filter(|input| !same(program, input.to_vec())).count();
     println!("input that ends inside a frame: {} ways, {wrong} answered wrongly", ways.len());
+    wrong
+}
+
+// ---- rows that are searched whole
+
+// Every ending that can be asked for: as the machines are searched one by one. Answers how many differ.
+fn whole_rows() -> usize {
+    let (plain, with, four) = (|| base(5).of, || base(5).flag(CREDENTIALS).of, || base(4).of);
+    let rows = [vec![plain(), with()], vec![with(), four()], vec![four(), plain()], vec![four(), four(), four()]];
+    let mut wrong = 0;
+    for row in &rows {
+        let whole = ending::whole(row);
+        let all = (0..row.len() + 2).flat_map(|at| (0..=u16::MAX).map(move |n| (at, (n >> 8) as u8, n as u8)));
+        wrong += all.filter(|ending| ending::stream(row, *ending).as_ref() != whole.get(ending)).count();
+    }
+    println!("rows searched whole: {}, {wrong} endings differ", rows.len());
     wrong
 }
 
@@ -322,8 +355,11 @@ pub fn random(kind: u8, seed: u64, count: u64, program: Option<&str>, plant: Opt
         }
     }
     println!("{}", figures.text());
+    if kind == b'E' {
+        run.differences += whole_rows();
+    }
     if let Some(program) = program {
-        run.differences += damaged(program, kind, seed, count / DAMAGED) + endings(program, kind, seed);
+        run.differences += damaged(program, kind, seed, count / DAMAGED) + cut_short(program, kind, seed);
     }
     println!("seed {seed}: {count} cases, {} differences", run.differences);
     run.differences == 0

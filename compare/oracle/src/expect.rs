@@ -1,11 +1,13 @@
 //! The expected line of a case: the model's, held against the original where that can tell. The original runs one
 //! session, byte by byte too; it runs for each proxy of a route in turn, on what is left of the pieces behind the bytes
 //! that the one before used; and it is the client of a proxy's end, where the bytes that the end used are what it would
-//! send. It tells sent bytes, outcome, status and used bytes; what else stands in a line is the model's alone.
+//! send; it ends as is wanted where a stream for that is found. It tells sent bytes, outcome, status and used bytes; what else stands in a line is the model's alone.
 //! What leaves the comparison shows by what the original does. A session that it ends with `WouldOverflow` goes on here,
 //! as the RFCs have it: the model judges it. One whose v4 address announces a name is refused with 23.
 use crate::case::*;
-use crate::model::{self, Line, Outcome, Step};
+use crate::draw::Random;
+use crate::generate::session::{bound_replies, replies};
+use crate::model::{self, Line, Outcome, Step, ending};
 use crate::rust::{self, Told};
 use std::net::IpAddr;
 
@@ -234,12 +236,55 @@ fn served(calls: &[Call], line: &Line) -> Result<Teller, String> {
     Ok(took.teller)
 }
 
+// ---- endings
+
+// Replies at random: for where they end a stream is found, and it is not behind what they used.
+fn not_behind(row: &[Opening], r: &mut Random) -> Result<(), String> {
+    let fails = r.below(row.len() + 1);
+    let each = row.iter().zip(0..).map(|(o, i)| if i < fails { bound_replies(r, o, false) } else { replies(r, o) });
+    let mut stream = each.collect::<Vec<_>>().concat();
+    if r.once_in(4) {
+        stream.truncate(r.below(stream.len() + 1));
+    }
+    let (ending, used) = ending::ends(row, &stream);
+    match ending::stream(row, ending) {
+        Some(first) if (first.len(), &first[..]) <= (used, &stream[..used]) => Ok(()),
+        _ => Err(format!("{ending:?} by {} too", hex(&stream[..used]))),
+    }
+}
+
+// What is found, and end of stream behind it, as a case of its session or route: it ends as is wanted, by the original
+// too.
+fn ended(of: &Row, wanted: &Wanted, r: &mut Random) -> Result<Teller, String> {
+    let Ok((row, at)) = ending::row(of) else {
+        return Ok(Teller::Model);
+    };
+    (0..4).try_for_each(|_| not_behind(&row, r))?;
+    let ending = (at, wanted.number, wanted.status);
+    let Some(stream) = ending::stream(&row, ending) else {
+        return Ok(Teller::Model);
+    };
+    if ending::ends(&row, &stream) != (ending, stream.len()) {
+        return Err(format!("{} ends otherwise", hex(&stream)));
+    }
+    let calls = [Call::Start(MOST_LENT), Call::Piece(MOST_LENT, stream), Call::End];
+    let (kind, calls) = match of {
+        Row::Session(opening) => (Kind::Session(opening.clone()), &calls[..]),
+        Row::Route(route, _) => (Kind::Route(route.clone(), MOST_LENT), &calls[1..]),
+    };
+    expect(&Case { kind, calls: calls.to_vec() }).map(|(_, teller)| teller)
+}
+
 // ---- all kinds
 
 // The line and who tells it, or what the original says against it. The texts' are the standard library's.
 pub fn expect(case: &Case) -> Result<(String, Teller), String> {
     if let Kind::Text(..) = case.kind {
         return Ok((model::text(case), Teller::Rust));
+    }
+    if let Kind::Ending(of, wanted) = &case.kind {
+        let seed = case.bytes().iter().map(|b| u64::from(*b)).sum();
+        return ended(of, wanted, &mut Random::new(seed, 0)).map(|teller| (model::text(case), teller));
     }
     let line = model::line(case);
     let teller = match &case.kind {

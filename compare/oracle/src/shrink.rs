@@ -41,6 +41,20 @@ fn fewer<T: Clone>(list: &[T]) -> Vec<Vec<T>> {
     all
 }
 
+fn records(kind: &mut Kind) -> Option<&mut Vec<Record>> {
+    match kind {
+        Kind::Session(of) | Kind::Ending(Row::Session(of), _) => Some(&mut of.records),
+        _ => None,
+    }
+}
+
+fn proxies(kind: &mut Kind) -> Option<&mut Vec<Opening>> {
+    match kind {
+        Kind::Route(of, _) | Kind::Ending(Row::Route(of, _), _) => Some(&mut of.proxies),
+        _ => None,
+    }
+}
+
 // What a part may become: fewer bytes, or else plainer ones.
 fn ways(part: &Part, coarse: bool) -> Vec<Vec<u8>> {
     match part {
@@ -90,14 +104,11 @@ impl Smaller<'_> {
                 }
             });
         }
-        match &case.kind {
-            Kind::Session(opening) => fewer(&opening.records).into_iter().for_each(|list| {
-                self.add(|c| c.kind = Kind::Session(Opening { records: list, ..opening.clone() }));
-            }),
-            Kind::Route(route, lent) => fewer(&route.proxies).into_iter().for_each(|list| {
-                self.add(|c| c.kind = Kind::Route(Route { proxies: list, ..route.clone() }, *lent));
-            }),
-            _ => {}
+        for list in records(&mut case.kind.clone()).map_or(vec![], |all| fewer(all)) {
+            self.add(|c| *records(&mut c.kind).unwrap() = list);
+        }
+        for list in proxies(&mut case.kind.clone()).map_or(vec![], |all| fewer(all)) {
+            self.add(|c| *proxies(&mut c.kind).unwrap() = list);
         }
         self.parts(true);
     }

@@ -2,6 +2,7 @@
 use crate::case::*;
 use crate::draw::Random;
 
+mod ending;
 mod proxy;
 mod route;
 pub mod session;
@@ -11,15 +12,20 @@ mod texts;
 pub type Lent<'a> = (&'a [u16], &'a [u16]);
 
 // The kinds by a letter; those of texts by T.
-pub const KINDS: [(&str, u8); 4] = [("texts", b'T'), ("run", b'S'), ("route", b'R'), ("proxy", b'P')];
+pub const KINDS: [(&str, u8); 5] =
+    [("texts", b'T'), ("run", b'S'), ("route", b'R'), ("proxy", b'P'), ("endings", b'E')];
 
 pub fn case(kind: u8, seed: u64, number: u64) -> Case {
     let mut r = Random::new(seed, number);
     let mut case = in_order(kind, &mut r, number);
-    if kind != b'T' && r.once_in(2) {
+    if has_calls(kind) && r.once_in(2) {
         reorder(&mut r, &mut case);
     }
     case.fit()
+}
+
+pub fn has_calls(kind: u8) -> bool {
+    !matches!(kind, b'T' | b'E')
 }
 
 // A session that is started once, ahead of its deliveries, and told of at last; ends and routes likewise.
@@ -28,6 +34,7 @@ pub fn in_order(kind: u8, r: &mut Random, number: u64) -> Case {
         b'T' => texts::case(r, number),
         b'S' => session::case(r).case(),
         b'R' => route::case(r).case(),
+        b'E' => ending::case(r),
         _ => proxy::case(r).case(),
     }
 }

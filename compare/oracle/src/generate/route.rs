@@ -18,7 +18,7 @@ pub fn case(r: &mut Random) -> Draft<Route> {
 
 // ---- what is asked for
 
-fn opening(r: &mut Random) -> Draft<Route> {
+pub fn opening(r: &mut Random) -> Draft<Route> {
     let n = if r.once_in(40) { r.one_of(&TOO_MANY) } else { r.one_of(&PROXIES) };
     let mut route = Draft::new(Route { flags: 0, port: port(r), host: vec![], proxies: vec![] });
     for flag in [END, ATTEMPTS] {

@@ -73,7 +73,7 @@ fn ask(r: &mut Random, case: &mut Draft<Opening>) {
     case.text_lent = if r.once_in(3) { r.one_of(&TEXTS) } else { near };
 }
 
-fn opening(r: &mut Random) -> Draft<Opening> {
+pub fn opening(r: &mut Random) -> Draft<Opening> {
     let version = if r.once_in(3) { 4 } else { 5 };
     let (enough, short) = if version == 4 { START4 } else { CALL5 };
     let n = r.one_of(&[0, 1, 1, 2, 3, 5, 7, 8]);

@@ -1,5 +1,5 @@
-//! The kept list: texts, sessions, routes, the proxy's end, calls in every order, frames that hold no case; last, input
-//! that ends inside a frame.
+//! The kept list: texts, sessions, routes, the proxy's end, calls in every order, frames that hold no case; streams for
+//! endings, and frames that hold none of these; last, input that ends inside a frame.
 use crate::case::*;
 use crate::compare::Figures;
 use crate::draft::{Draft, Drafted};
@@ -9,6 +9,7 @@ use std::collections::HashSet;
 use std::fs;
 
 mod bad;
+mod ending;
 mod orders;
 mod proxy;
 mod route;
@@ -57,36 +58,60 @@ fn hexes(texts: &str) -> Vec<Vec<u8>> {
     texts.split_whitespace().map(|text| text.as_bytes().chunks(2).map(byte).collect()).collect()
 }
 
-// Writes the list and its answers, and says what it holds; fails where the original and the model differ.
+// The two files, as far as they are written.
+#[derive(Default)]
+struct Files {
+    stdin: Vec<u8>,
+    stdout: String,
+    figures: Figures,
+}
+
+impl Files {
+    // Fails where the original and the model differ.
+    fn cases(&mut self, parts: &[(&str, fn(&mut Kept))]) -> Result<(), String> {
+        let mut list = Kept { cases: vec![], seen: HashSet::new() };
+        for (name, part) in parts {
+            let first = list.cases.len();
+            part(&mut list);
+            println!("{name}: {} cases", list.cases.len() - first);
+        }
+        for case in &list.cases {
+            let (line, teller) = expect(case).map_err(|told| format!("{}: {told}", hex(&case.bytes())))?;
+            self.stdin.extend(case.frame());
+            self.stdout += &(line + "\n");
+            self.figures.add(case, teller);
+        }
+        Ok(())
+    }
+
+    // Bad, and good ones of one letter.
+    fn frames(&mut self, frames: &[Vec<u8>]) {
+        for bytes in frames {
+            self.stdin.extend(frame(bytes));
+            self.stdout += if Case::read(bytes).is_none() { "bad\n" } else { "1\n" };
+        }
+        println!("bad and beside them: {} frames", frames.len());
+    }
+}
+
+// Writes the list and its answers, and says what it holds.
 pub fn write(dir: &str) -> Result<(), String> {
-    let mut list = Kept { cases: vec![], seen: HashSet::new() };
-    let (mut stdin, mut stdout, mut figures) = (vec![], String::new(), Figures::default());
-    for (name, part) in [
-        ("texts", texts::add as fn(&mut Kept)),
+    let mut files = Files::default();
+    files.cases(&[
+        ("texts", texts::add),
         ("sessions", session::add),
         ("routes", route::add),
         ("the proxy's end", proxy::add),
         ("orders of calls", orders::add),
-    ] {
-        let first = list.cases.len();
-        part(&mut list);
-        println!("{name}: {} cases", list.cases.len() - first);
-    }
-    for case in &list.cases {
-        let (line, teller) = expect(case).map_err(|told| format!("{}: {told}", hex(&case.bytes())))?;
-        stdin.extend(case.frame());
-        stdout += &(line + "\n");
-        figures.add(case, teller);
-    }
-    let bad = bad::frames();
-    for bytes in &bad {
-        stdin.extend(frame(bytes));
-        stdout += if Case::read(bytes).is_none() { "bad\n" } else { "1\n" };
-    }
+    ])?;
+    files.frames(&bad::frames());
+    files.cases(&[("streams for endings", ending::add)])?;
+    files.frames(&ending::bad());
+    let Files { mut stdin, mut stdout, figures } = files;
     stdin.extend([0, 9, b'U']);
     stdout += "bad\n";
-    println!("bad and beside them: {} frames, and input that ends inside one", bad.len());
-    println!("{} bytes, answers {} bytes\n{}", stdin.len(), stdout.len(), figures.text());
+    println!("input that ends inside a frame\n{} bytes, answers {} bytes", stdin.len(), stdout.len());
+    println!("{}", figures.text());
     let saved = fs::create_dir_all(dir).and_then(|()| fs::write(format!("{dir}/stdin"), stdin));
     saved.and_then(|()| fs::write(format!("{dir}/stdout"), stdout)).map_err(|e| format!("{dir}: {e}"))
 }

@@ -250,7 +250,7 @@ fn lents(list: &mut Kept) {
 }
 
 // A route in which the proxy of this number, from 1, is asked for what it refuses with this.
-fn refused(route: &Draft<Route>, number: usize, refusal: u8) -> Draft<Route> {
+pub fn refused(route: &Draft<Route>, number: usize, refusal: u8) -> Draft<Route> {
     match refusal {
         2 => route.asking(number, b"[]"),
         3 => route.asking(number, b"a b"),

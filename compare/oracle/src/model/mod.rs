@@ -2,6 +2,7 @@
 use crate::case::*;
 use std::net::IpAddr;
 
+pub mod ending;
 mod proxy;
 mod session;
 mod tunnel;
@@ -101,7 +102,7 @@ fn run(side: &mut dyn Side, check: u8, calls: &[Call]) -> Line {
 // Of a case that has calls.
 pub fn line(case: &Case) -> Line {
     match &case.kind {
-        Kind::Text(..) => panic!("a text has no calls"),
+        Kind::Text(..) | Kind::Ending(..) => panic!("a case without calls"),
         Kind::Session(opening) => run(&mut tunnel::session(opening), prepare(opening), &case.calls),
         Kind::Route(route, lent) => run(&mut tunnel::route(route, *lent), route_check(route, *lent), &case.calls),
         Kind::End(set_up) => run(&mut proxy::end(set_up), proxy::check(set_up), &case.calls),
@@ -163,6 +164,7 @@ impl Line {
 pub fn text(case: &Case) -> String {
     match &case.kind {
         Kind::Text(letter, text) => text_line(*letter, text),
+        Kind::Ending(of, wanted) => ending::text(of, wanted),
         kind => line(case).text(kind),
     }
 }

@@ -111,6 +111,7 @@ fn request4(case: &Opening) -> Vec<u8> {
 
 // ---- reading replies
 
+#[derive(Clone, Copy, PartialEq, Eq, Hash)]
 pub enum Reply {
     Method(u8),
     Credential,

@@ -78,7 +78,7 @@ pub fn route(route: &Route, n: u16) -> Tunnel {
 // ---- the machines in turn
 
 // Each is begun when the one before opens, and fed what it left: those that were begun.
-fn in_turn(plans: &[Vec<Step>], joined: &[u8]) -> Vec<State> {
+pub fn in_turn(plans: &[Vec<Step>], joined: &[u8]) -> Vec<State> {
     let (mut begun, mut left) = (vec![], joined);
     for plan in plans {
         let now = machine(plan, left);
