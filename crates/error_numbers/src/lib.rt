@@ -42,6 +42,7 @@ fn numbers_of(error: SocksError) -> Numbers
         SocksError::RouteLength => alone(21),
         SocksError::OutOfOrder => alone(22),
         SocksError::AnnouncesName => alone(23),
+        SocksError::ShortStream => alone(27),
     }
 }
 

@@ -81,6 +81,7 @@ pub enum SocksError {
     RouteLength,
     OutOfOrder,
     AnnouncesName,
+    ShortStream,
 }
 
 // What a call answers beside its values.

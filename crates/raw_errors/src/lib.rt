@@ -37,6 +37,9 @@ fn later_error(n: u8, status: u8) -> SocksError
     if n == 23 {
         return SocksError::AnnouncesName;
     }
+    if n == 27 {
+        return SocksError::ShortStream;
+    }
     SocksError::Settled
 }
 

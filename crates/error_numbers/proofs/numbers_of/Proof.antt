@@ -68,6 +68,9 @@ returns-21 c = rw (c .before .enum-told20 .given .1) (c .alone20 .ensures)
 returns-22 : tie.Need-returns-22
 returns-22 c = rw (c .before .enum-told21 .given .1) (c .alone21 .ensures)
 
+returns-23 : tie.Need-returns-23
+returns-23 c = rw (c .before .enum-told22 .given .1) (c .alone22 .ensures)
+
 pub numbers-of-spec : {M : Type 1} → statement M
 numbers-of-spec =
     tie.close
@@ -115,6 +118,8 @@ numbers-of-spec =
     (λ c κs. search needs)
     (λ c. search needs)
     (λ c κs. search needs)
+    (λ c. search needs)
+    (λ c κs. search needs)
     returns
     returns-2
     returns-3
@@ -136,4 +141,5 @@ numbers-of-spec =
     returns-19
     returns-20
     returns-21
-    returns-22)
+    returns-22
+    returns-23)
