@@ -5,17 +5,16 @@ use mathlib.Core.Option.{Option, none, some}
 use mathlib.Core.List.{List, [], _∷_, _++_}
 use lib.Dec.{leb, eqb}
 use Rattle.protocol.specs.Opening.{Opening, v5, v4, noAuth, userPass}
+use Rattle.endings_spec.specs.declared.Kind.{Kind}
+use Rattle.endings_spec.specs.declared.Kind.the-variants.{WithoutCredentials, WithCredentials, OverV4}
 use Rattle.endings_spec.specs.declared.OutcomeStatus.{OutcomeStatus}
 
 -- ---- an opening matters only by its kind
 
-pub data Kind : Type 0 where
-  withoutCredentials withCredentials overV4 : Kind
-
 abbrev pub kindOf : Opening → Kind
-kindOf (v5 noAuth d port o) = withoutCredentials
-kindOf (v5 (userPass u p) d port o) = withCredentials
-kindOf (v4 d port) = overV4
+kindOf (v5 noAuth d port o) = WithoutCredentials
+kindOf (v5 (userPass u p) d port o) = WithCredentials
+kindOf (v4 d port) = OverV4
 
 -- ---- its streams
 
@@ -28,9 +27,9 @@ v4Reply cd = 0x00 ∷ cd ∷ 0x00 ∷ 0x00 ∷ 0x00 ∷ 0x00 ∷ 0x00 ∷ 0x00 �
 
 -- to open
 abbrev pub openStream : Kind → List ℕ
-openStream withoutCredentials = 0x05 ∷ 0x00 ∷ connectReply 0x00
-openStream withCredentials = 0x05 ∷ 0x02 ∷ 0x01 ∷ 0x00 ∷ connectReply 0x00
-openStream overV4 = v4Reply 0x5A
+openStream WithoutCredentials = 0x05 ∷ 0x00 ∷ connectReply 0x00
+openStream WithCredentials = 0x05 ∷ 0x02 ∷ 0x01 ∷ 0x00 ∷ connectReply 0x00
+openStream OverV4 = v4Reply 0x5A
 
 -- what is wanted is this number, with a status from lo to hi
 abbrev pub isOf : OutcomeStatus → ℕ → ℕ → ℕ → Bool
@@ -40,26 +39,26 @@ abbrev pub if : Bool → List ℕ → Option (List ℕ) → Option (List ℕ)
 if b bs later = cond b (some bs) later
 
 unfoldable pub streamOf : Kind → OutcomeStatus → Option (List ℕ)
-streamOf withoutCredentials w =
+streamOf WithoutCredentials w =
     if (isOf w 9 0 0) []
     (if (isOf w 10 0 0) (0x00 ∷ 0x00 ∷ [])
     (if (isOf w 12 0 0) (0x05 ∷ 0xFF ∷ [])
     (if (isOf w 13 0 0) (0x05 ∷ 0x02 ∷ [])
     (if (isOf w 15 1 8) (0x05 ∷ 0x00 ∷ connectReply (w .status))
-    (if (isOf w 0 0 0) (openStream withoutCredentials) none)))))
-streamOf withCredentials w =
+    (if (isOf w 0 0 0) (openStream WithoutCredentials) none)))))
+streamOf WithCredentials w =
     if (isOf w 9 0 0) []
     (if (isOf w 10 0 0) (0x00 ∷ 0x00 ∷ [])
     (if (isOf w 12 0 0) (0x05 ∷ 0xFF ∷ [])
     (if (isOf w 13 0 0) (0x05 ∷ 0x00 ∷ [])
     (if (isOf w 14 0 0) (0x05 ∷ 0x02 ∷ 0x01 ∷ 0x01 ∷ [])
     (if (isOf w 15 1 8) (0x05 ∷ 0x02 ∷ 0x01 ∷ 0x00 ∷ connectReply (w .status))
-    (if (isOf w 0 0 0) (openStream withCredentials) none))))))
-streamOf overV4 w =
+    (if (isOf w 0 0 0) (openStream WithCredentials) none))))))
+streamOf OverV4 w =
     if (isOf w 9 0 0) []
     (if (isOf w 10 0 0) (v4Reply 0x00)
     (if (isOf w 15 91 93) (v4Reply (w .status))
-    (if (isOf w 0 0 0) (openStream overV4) none)))
+    (if (isOf w 0 0 0) (openStream OverV4) none)))
 
 abbrev pub streamFor : Opening → OutcomeStatus → Option (List ℕ)
 streamFor o w = streamOf (kindOf o) w

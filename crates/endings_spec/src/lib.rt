@@ -5,3 +5,10 @@ pub struct OutcomeStatus {
     pub number: u8,
     pub status: u8,
 }
+
+// What the stream of an opening depends on: over SOCKS5 whether credentials are given.
+pub enum Kind {
+    WithoutCredentials,
+    WithCredentials,
+    OverV4,
+}
