@@ -31,14 +31,14 @@ use Rattle.endings.specs.Produces.{routeConditions}
 not-zero : (n : ℕ) → eqb n 0 ≡ false → 0 < n
 not-zero n q = let f : n ≡ 0 → ⊥ = λ e. true≢false (sym (eq-eqb n 0 e) ∙ q) in omega arith
 
-size-has : (n : ℕ) (b c : Bool) → eqb n 0 ≡ b → ltb 8 n ≡ c → {x : code.Answer} → refuse (b || c) RouteLength x ≡ Accepted → (0 < n) × (n ≤ 8)
-size-has n true c p q z = absurd (clash (sym z))
-size-has n false true p q z = absurd (clash (sym z))
-size-has n false false p q z = (not-zero n p, ltb-false 8 n q)
+size-has : (n : ℕ) (b c : Bool) → eqb n 0 ≡ b → ltb 8 n ≡ c → (x : code.Answer) → refuse (b || c) RouteLength x ≡ Accepted → (0 < n) × (n ≤ 8)
+size-has n true c p q x z = absurd (clash (sym z))
+size-has n false true p q x z = absurd (clash (sym z))
+size-has n false false p q x z = (not-zero n p, ltb-false 8 n q)
 
 pub accepted-size : (r : routing.Route) → checkRoute r ≡ Accepted → (0 < length (r .proxies)) × (length (r .proxies) ≤ 8)
 unfolding checkRoute
-accepted-size r q = size-has (length (r .proxies)) _ _ refl refl q
+accepted-size r q = size-has (length (r .proxies)) _ _ refl refl (checkInTurn (asked r)) q
 
 -- ---- output enough for eight proxies, or for as many as there are, is not refused
 

@@ -25,6 +25,7 @@ spelt found len bytes = cond found (some (take len bytes)) none
 pub record Spells (w : Word) (s : Option (List ℕ)) : Type 0 where
   pub is : spelt (w .found) (w .len) (w .bytes) ≡ s
   pub within : w .len ≤ 12
+  pub long : length (w .bytes) ≡ 12
 
 pub record Fills (r : Row) (out : List ℕ) (s : Option (List ℕ)) : Type 0 where
   pub is : spelt (r .found) (r .len) out ≡ s

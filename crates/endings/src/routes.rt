@@ -69,13 +69,15 @@ fn put_opens(proxies: [Proxy; 8], n: usize, out: &mut [u8]) -> usize
 fn word_at(proxy: Proxy, behind: usize, wanted: OutcomeStatus) -> Word
     ensures { λ r. ⌜ Spells r (endFor behind (kindFor proxy) wanted) ⌝ }
 {
-    if 0 < behind {
-        if wanted.number == 0 {
-            return no_word();
-        }
-    }
     let version = proxy.version;
-    stream_of(kind_by(version, proxy.proxy_auth), wanted)
+    let kind = kind_by(version, proxy.proxy_auth);
+    if behind == 0 {
+        return stream_of(kind, wanted);
+    }
+    if wanted.number == 0 {
+        return no_word();
+    }
+    stream_of(kind, wanted)
 }
 
 // The length of a stream that stands at the start of an array, if there is one.
