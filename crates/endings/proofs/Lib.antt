@@ -1,3 +1,4 @@
 pub mod Checks
+pub mod Prepared
 pub mod Promise
 pub mod Led

@@ -3,12 +3,11 @@ use Prim.Native.Nat.{ℕ, _≤_, _<_}
 use native.Mathlib.Nat.{zero-add}
 use mathlib.Core.Path.{_≡_, refl, ap, subst, _∙_}
 use mathlib.Core.Bool.{Bool, true, cond}
-use mathlib.Core.Option.{Option, none, some}
+use mathlib.Core.Option.{none, some}
 use mathlib.Core.List.{List, _++_}
 use lib.ListN.{length, drop}
 use borrow.Author.Tests.{le-leb, lt-leb}
 use Rattle.protocol.specs.declared.SocksError.the-variants.{ShortStream}
-use Rattle.protocol.specs.declared.Answer as code
 use Rattle.protocol.specs.declared.Answer.the-variants.{Accepted}
 use Rattle.buffers.specs.write.Written.{overwrite, Wrote}
 use Rattle.endings.specs.declared.Produced.{Produced}
@@ -26,9 +25,6 @@ module _ {found : Bool} (t : found ≡ true) (bs buffer : List ℕ) where
       rw (t, le-leb (length bs) (length buffer) h)
       (record { returned = ap Produced.Stream (w .place ∙ zero-add (length bs)); left = w .bytes ∙ ap (λ (k : ℕ). bs ++ drop k buffer) (zero-add (length bs)) })
 
--- by another stream that is the same
-pub as-stream : {x : code.Answer} {s t : Option (List ℕ)} {buffer : List ℕ} {r : Produced} {buffer′ : List ℕ} → s ≡ t → Leaves (produced x s buffer) r buffer′ → Leaves (produced x t buffer) r buffer′
-as-stream {x} {s} {t} {buffer} {r} {buffer′} q l = subst (λ (u : Option (List ℕ)). Leaves (produced x u buffer) r buffer′) q l
-
-pub as-answer : {x y : code.Answer} {s : Option (List ℕ)} {buffer : List ℕ} {r : Produced} {buffer′ : List ℕ} → x ≡ y → Leaves (produced x s buffer) r buffer′ → Leaves (produced y s buffer) r buffer′
-as-answer {x} {y} {s} {buffer} {r} {buffer′} q l = subst (λ (u : code.Answer). Leaves (produced u s buffer) r buffer′) q l
+-- by another call that is the same
+pub as-call : {c d : Call} {r : Produced} {buffer : List ℕ} → c ≡ d → Leaves c r buffer → Leaves d r buffer
+as-call {c} {d} {r} {buffer} q l = subst (λ (x : Call). Leaves x r buffer) q l

@@ -5,6 +5,7 @@ use mathlib.Core.Bool.{Bool, true, false, cond}
 use mathlib.Core.Option.{Option, none, some}
 use mathlib.Core.List.{List}
 use lib.ListN.{length, take}
+use lib.Seq.{length-take-le}
 use native.Mathlib.Omega.{arith}
 use Rattle.endings.specs.declared.words.Word.{Word}
 use Rattle.endings.specs.Coded.{spelt, Spells}
@@ -16,3 +17,9 @@ spells e p h l q = record { is = ap (λ (x : Word). spelt (x .found) (x .len) (x
 pub spelt-some : (found : Bool) {a b : List ℕ} → cond found (some a) none ≡ some b → a ≡ b
 spelt-some true q = cc
 spelt-some false q = let z : _≡_ {A = ℕ} 0 1 = cc in absurd (omega arith)
+
+pub inside : {w : Word} {s : Option (List ℕ)} → Spells w s → w .len ≤ length (w .bytes)
+inside v = omega (arith, v .within, v .long)
+
+pub short : {w : Word} {s : Option (List ℕ)} → Spells w s → length (take (w .len) (w .bytes)) ≤ 12
+short {w} v = omega (arith, length-take-le (w .len) (w .bytes) (inside v), v .within)

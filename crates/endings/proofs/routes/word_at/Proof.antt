@@ -1,48 +1,25 @@
 use borrow.Author.Needs.{needs}
+use Rattle.endings.proofs.routes.Laws.{end-last, end-none, end-more}
 use Rattle.endings.proofs.routes.word_at.Statement.{statement}
 use Rattle.endings.proofs.routes.word_at.Tie as tie
-use Rattle.endings.proofs.routes.word_at.Reads as reads
-use Rattle.endings.proofs.routes.word_at.Lts as lts
-use Rattle.endings.proofs.words.kind_by.Reads as kind-by-reads
-use Rattle.endings.proofs.words.no_word.Reads as no-word-reads
-use Rattle.endings.proofs.words.stream_of.Reads as stream-of-reads
 
--- src/routes.rt:73:9
-kind-by-requires : tie.Need-kind-by-requires
-kind-by-requires c κs = search needs
-
--- src/routes.rt:75:9
-stream-of-requires : tie.Need-stream-of-requires
-stream-of-requires c κs = search needs
-
--- src/routes.rt:75:9
 returns : tie.Need-returns
-returns c = ?
+returns c = let a = c .before .before .before .args in end-last (c .before .before .kind-by .ensures) (a .wanted) (a .behind) (c .before .if1 .taken) (c .stream-of .ensures)
 
--- src/routes.rt:78:9
-no-word-requires : tie.Need-no-word-requires
-no-word-requires c κs = search needs
-
--- src/routes.rt:78:9
 returns-2 : tie.Need-returns-2
-returns-2 c = ?
+returns-2 c = let a = c .before .before .before .before .before .args in end-none (a .behind) _ (a .wanted) (c .before .before .before .if1 .left) (c .before .if2 .taken) (c .no-word .ensures)
 
--- src/routes.rt:80:5
-stream-of-requires-2 : tie.Need-stream-of-requires-2
-stream-of-requires-2 c κs = search needs
-
--- src/routes.rt:69:1
 returns-3 : tie.Need-returns-3
-returns-3 c = ?
+returns-3 c = let a = c .before .before .before .before .before .args in end-more (c .before .before .before .before .kind-by .ensures) (a .wanted) (a .behind) (c .before .before .before .if1 .left) (c .before .if2 .left) (c .stream-of2 .ensures)
 
 pub word-at-spec : {M : Type 1} → statement M
 word-at-spec =
     tie.close
     (tie.spec
-    kind-by-requires
-    stream-of-requires
+    (λ c κs. search needs)
+    (λ c κs. search needs)
     returns
-    no-word-requires
+    (λ c κs. search needs)
     returns-2
-    stream-of-requires-2
+    (λ c κs. search needs)
     returns-3)

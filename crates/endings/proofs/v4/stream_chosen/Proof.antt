@@ -1,27 +1,20 @@
 use borrow.Author.Needs.{needs}
+use Rattle.lookup.specs.Chosen.{recordsOf}
+use Rattle.endings.proofs.Prepared.{prepared4}
+use Rattle.endings.proofs.place.Laws.{as-call}
 use Rattle.endings.proofs.v4.stream_chosen.Statement.{statement}
 use Rattle.endings.proofs.v4.stream_chosen.Tie as tie
-use Rattle.endings.proofs.v4.stream_chosen.Reads as reads
-use Rattle.endings.proofs.v4.stream_chosen.Lts as lts
-use Rattle.client_opening_v4.proofs.opening.prepare_chosen.Reads as prepare-chosen-reads
-use Rattle.endings.proofs.v4.stream_prepared.Reads as stream-prepared-reads
 
--- src/v4.rt:35:9
-prepare-chosen-requires : tie.Need-prepare-chosen-requires
-prepare-chosen-requires c κs = search needs
-
--- src/v4.rt:36:5
-stream-prepared-requires : tie.Need-stream-prepared-requires
-stream-prepared-requires c κs = search needs
-
--- src/v4.rt:25:1
-same-length : tie.Need-same-length
-same-length c = search needs
-
--- src/v4.rt:25:1
 returns : tie.Need-returns
-returns c = ?
+returns c =
+    let a = c .before .before .before .before .before .before .before .args in
+    as-call (prepared4 (record { localDns = a .local-dns; host = a .host .now; port = a .port; records = recordsOf (a .chosen) }) (a .wanted) (a .buffer .now) (c .before .before .before .before .prepare-chosen .ensures)) (c .before .before .stream-prepared .ensures)
 
 pub stream-chosen-spec : {M : Type 1} → statement M
 stream-chosen-spec =
-    tie.close (tie.spec prepare-chosen-requires stream-prepared-requires same-length returns)
+    tie.close
+    (tie.spec
+    (λ c κs. search needs)
+    (λ c κs. search needs)
+    (λ c. search needs)
+    returns)

@@ -1,27 +1,22 @@
 use borrow.Author.Needs.{needs}
+use mathlib.Core.Path.{ap}
+use Rattle.endings_spec.specs.declared.Kind.{Kind}
+use Rattle.endings_spec.specs.Streams.{streamOf}
+use Rattle.endings.specs.Calls.{produced}
+use Rattle.endings.proofs.place.Laws.{as-call}
 use Rattle.endings.proofs.v5.stream_prepared.Statement.{statement}
 use Rattle.endings.proofs.v5.stream_prepared.Tie as tie
-use Rattle.endings.proofs.v5.stream_prepared.Reads as reads
-use Rattle.endings.proofs.v5.stream_prepared.Lts as lts
-use Rattle.endings.proofs.place.answer_with.Reads as answer-with-reads
-use Rattle.endings.proofs.words.kind_by.Reads as kind-by-reads
 
--- src/v5.rt:28:25
-kind-by-requires : tie.Need-kind-by-requires
-kind-by-requires c κs = search needs
-
--- src/v5.rt:28:5
-answer-with-requires : tie.Need-answer-with-requires
-answer-with-requires c κs = search needs
-
--- src/v5.rt:19:1
-same-length : tie.Need-same-length
-same-length c = search needs
-
--- src/v5.rt:19:1
 returns : tie.Need-returns
-returns c = ?
+returns c =
+    let a = c .before .before .before .before .before .before .args in
+    as-call (ap (λ (k : Kind). produced (a .prepared .answer) (streamOf k (a .wanted)) (a .buffer .now)) (c .before .before .before .before .kind-by .ensures)) (c .before .before .answer-with .ensures)
 
 pub stream-prepared-spec : {M : Type 1} → statement M
 stream-prepared-spec =
-    tie.close (tie.spec kind-by-requires answer-with-requires same-length returns)
+    tie.close
+    (tie.spec
+    (λ c κs. search needs)
+    (λ c κs. search needs)
+    (λ c. search needs)
+    returns)
