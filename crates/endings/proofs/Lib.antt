@@ -2,3 +2,4 @@ pub mod Checks
 pub mod Prepared
 pub mod Promise
 pub mod Led
+pub mod Claims

@@ -35,3 +35,18 @@ pub fn stream_chosen(
     let prepared = client_opening_v4::opening::prepare_chosen(local_dns, host, port, chosen);
     stream_prepared(prepared, wanted, buffer)
 }
+
+// The stream at the buffer's start for what is wanted of a session over SOCKS4, with a lookup's answers as `prepare` takes them.
+pub fn stream(
+    local_dns: bool,
+    host: &[u8],
+    port: Port,
+    records: &[Record],
+    wanted: OutcomeStatus,
+    buffer: &mut [u8],
+) -> Produced
+    ensures { λ r. ⌜ Leaves (stream4 (record { localDns = «local_dns»; host = now (host .entry); port = port; records = now (records .entry) }) wanted (now (buffer .entry))) r (now (buffer .exit)) ⌝ }
+{
+    let prepared = client_opening_v4::opening::prepare(local_dns, host, port, records);
+    stream_prepared(prepared, wanted, buffer)
+}

@@ -51,3 +51,20 @@ pub fn stream_chosen(
     );
     stream_prepared(prepared, config, wanted, buffer)
 }
+
+// The stream at the buffer's start for what is wanted of a session over SOCKS5, with a lookup's answers as `prepare` takes them.
+pub fn stream(
+    config: SocksConfig,
+    host: &[u8],
+    port: Port,
+    user: &[u8],
+    password: &[u8],
+    records: &[Record],
+    wanted: OutcomeStatus,
+    buffer: &mut [u8],
+) -> Produced
+    ensures { λ r. ⌜ Leaves (stream5 (record { config = config; host = now (host .entry); port = port; user = now (user .entry); password = now (password .entry); records = now (records .entry) }) wanted (now (buffer .entry))) r (now (buffer .exit)) ⌝ }
+{
+    let prepared = client_opening_v5::opening::prepare(config, host, port, user, password, records);
+    stream_prepared(prepared, config, wanted, buffer)
+}

@@ -1,11 +1,10 @@
 use borrow.Author.Needs.{needs}
-use Prim.Native.Nat.{ℕ}
-use mathlib.Core.Path.{ap, sym}
-use mathlib.Core.Option.{Option}
-use mathlib.Core.List.{List}
+use mathlib.Core.Path.{sym}
+use lib.ListN.{take}
 use lib.Seq.{length-take-le}
 use Rattle.protocol.specs.declared.Answer.the-variants.{Accepted}
 use Rattle.endings.specs.Calls.{produced}
+use Rattle.endings.specs.Coded.{rowAt}
 use Rattle.endings.proofs.place.Laws.{as-call}
 use Rattle.endings.proofs.routes.put_row.Statement.{statement}
 use Rattle.endings.proofs.routes.put_row.Tie as tie
@@ -16,7 +15,8 @@ slice-aggregate-put-found c = sym (length-take-le _ _ (c .before .before .fill .
 returns : tie.Need-returns
 returns c =
     let b = c .before .before .before .before .before .before in
-    as-call (ap (λ (s : Option (List ℕ)). produced Accepted s (b .before .before .before .args .buffer .now)) (b .fill .ensures .is)) (c .before .before .put-found .ensures)
+    let a = b .before .before .before .args in
+    as-call {d = produced Accepted (rowAt (take (a .count) (a .proxies)) (a .proxy) (a .wanted)) (a .buffer .now)} (λ i. produced Accepted (b .fill .ensures .is i) (a .buffer .now)) (c .before .before .put-found .ensures)
 
 pub put-row-spec : {M : Type 1} → statement M
 put-row-spec =
