@@ -1,0 +1,4 @@
+pub mod Calls
+pub mod Produces
+pub mod Led
+pub mod Coded

@@ -1,0 +1,3 @@
+pub mod Endings
+pub mod RouteEndings
+pub mod Streams
