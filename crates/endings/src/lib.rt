@@ -4,6 +4,7 @@ pub mod routes;
 pub mod v4;
 pub mod v5;
 pub mod words;
+
 use protocol::SocksError;
 
 // What is answered: a refusal, that no stream leads there, or the length of the stream that stands at the buffer's start.

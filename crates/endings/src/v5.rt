@@ -25,7 +25,12 @@ fn stream_prepared(
     ensures { λ r. ⌜ Leaves (produced (prepared .answer) (streamOf (kindBy Version.V5 (config .«proxy_auth»)) wanted) (now (buffer .entry))) r (now (buffer .exit)) ⌝ }
 {
     let answer = prepared.answer;
-    answer_with(answer, kind_by(Version::V5, config.proxy_auth), wanted, buffer)
+    answer_with(
+        answer,
+        kind_by(Version::V5, config.proxy_auth),
+        wanted,
+        buffer,
+    )
 }
 
 // `stream` for a caller that has chosen the record, or has none.

@@ -55,7 +55,20 @@ fn connect_reply(rep: u8) -> Word
     Word {
         found: true,
         len: 10,
-        bytes: [0x05, 0x00, 0x05, rep, 0x00, 0x03, 0x01, 0x00, 0x00, 0x00, 0, 0],
+        bytes: [
+            0x05,
+            0x00,
+            0x05,
+            rep,
+            0x00,
+            0x03,
+            0x01,
+            0x00,
+            0x00,
+            0x00,
+            0,
+            0,
+        ],
     }
 }
 
@@ -66,7 +79,20 @@ fn credential_reply(status: u8, rep: u8, len: usize) -> Word
     Word {
         found: true,
         len: len,
-        bytes: [0x05, 0x02, 0x01, status, 0x05, rep, 0x00, 0x03, 0x01, 0x00, 0x00, 0x00],
+        bytes: [
+            0x05,
+            0x02,
+            0x01,
+            status,
+            0x05,
+            rep,
+            0x00,
+            0x03,
+            0x01,
+            0x00,
+            0x00,
+            0x00,
+        ],
     }
 }
 
