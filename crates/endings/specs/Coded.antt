@@ -1,4 +1,4 @@
--- As the code has it: a stream in an array, what a function returns and leaves in the buffer, and a route's streams by its proxies.
+-- F-12 as the code has it: a stream in an array, and a route's streams by its proxies.
 use Prim.Native.Nat.{ℕ, zero, suc, _≤_}
 use mathlib.Core.Path.{_≡_}
 use mathlib.Core.Bool.{Bool, true, false, cond}
@@ -13,10 +13,8 @@ use Rattle.endings_spec.specs.declared.Kind.{Kind}
 use Rattle.endings_spec.specs.declared.Kind.the-variants.{WithoutCredentials, WithCredentials, OverV4}
 use Rattle.endings_spec.specs.declared.OutcomeStatus.{OutcomeStatus}
 use Rattle.endings_spec.specs.Streams.{openStream, streamOf, joined}
-use Rattle.endings.specs.declared.Produced.{Produced}
 use Rattle.endings.specs.declared.words.Word.{Word}
 use Rattle.endings.specs.declared.routes.Row.{Row}
-use Rattle.endings.specs.Calls.{Call}
 
 -- the first so many of some bytes, or none
 abbrev pub spelt : Bool → ℕ → List ℕ → Option (List ℕ)
@@ -30,11 +28,6 @@ pub record Spells (w : Word) (s : Option (List ℕ)) : Type 0 where
 pub record Fills (r : Row) (out : List ℕ) (s : Option (List ℕ)) : Type 0 where
   pub is : spelt (r .found) (r .len) out ≡ s
   pub within : r .len ≤ length out
-
--- what a function returns and leaves in the buffer, as a call says
-pub record Leaves (c : Call) (r : Produced) (buffer : List ℕ) : Type 0 where
-  pub returned : r ≡ c .answer
-  pub left : buffer ≡ c .buffer
 
 abbrev pub kindBy : Version → Bool → Kind
 kindBy V5 true = WithCredentials

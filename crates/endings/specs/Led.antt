@@ -6,7 +6,6 @@ use Prim.Native.Nat.{ℕ}
 use Rattle.protocol.specs.declared.Answer.the-variants.{Accepted}
 use Rattle.protocol.specs.Bytes.{BytePieces}
 use Rattle.protocol.specs.Opening.{V5, V4, Opening, opening5, opening4, Sixteen}
-use Rattle.client_session.specs.declared.Session.{Session}
 use Rattle.client_session.specs.declared.Prepared.{Prepared}
 use Rattle.client_session.specs.Session.{outcome}
 use Rattle.client_session.specs.Calls.{prepare5, prepare4, start, end}

@@ -3,8 +3,7 @@ ghost use mathlib.Core.Bool.{cond};
 ghost use mathlib.Core.Option.{none, some};
 ghost use Rattle.protocol.specs.declared.Answer.the-variants as Answer;
 ghost use Rattle.endings_spec.specs.Streams.{streamOf};
-ghost use Rattle.endings.specs.Calls.{produced};
-ghost use Rattle.endings.specs.Coded.{Leaves};
+ghost use Rattle.endings.specs.Calls.{produced, StreamResult};
 use crate::Produced;
 use crate::words::stream_of;
 use buffers::write::copy;
@@ -15,7 +14,7 @@ use protocol::SocksError;
 
 // A stream, if one was found.
 pub fn put_found(found: bool, bytes: &[u8], buffer: &mut [u8]) -> Produced
-    ensures { λ r. ⌜ Leaves (produced Answer.Accepted (cond found (some (now (bytes .entry))) none) (now (buffer .entry))) r (now (buffer .exit)) ⌝ }
+    ensures { λ r. ⌜ StreamResult (produced Answer.Accepted (cond found (some (now (bytes .entry))) none) (now (buffer .entry))) r (now (buffer .exit)) ⌝ }
 {
     if found {
         if buffer.len() < bytes.len() {
@@ -27,7 +26,7 @@ pub fn put_found(found: bool, bytes: &[u8], buffer: &mut [u8]) -> Produced
 }
 
 fn put_word(kind: Kind, wanted: OutcomeStatus, buffer: &mut [u8]) -> Produced
-    ensures { λ r. ⌜ Leaves (produced Answer.Accepted (streamOf kind wanted) (now (buffer .entry))) r (now (buffer .exit)) ⌝ }
+    ensures { λ r. ⌜ StreamResult (produced Answer.Accepted (streamOf kind wanted) (now (buffer .entry))) r (now (buffer .exit)) ⌝ }
 {
     let word = stream_of(kind, wanted);
     let bytes = word.bytes;
@@ -37,7 +36,7 @@ fn put_word(kind: Kind, wanted: OutcomeStatus, buffer: &mut [u8]) -> Produced
 
 // What an opening of this kind is answered by its checks' answer.
 pub fn answer_with(answer: Answer, kind: Kind, wanted: OutcomeStatus, buffer: &mut [u8]) -> Produced
-    ensures { λ r. ⌜ Leaves (produced answer (streamOf kind wanted) (now (buffer .entry))) r (now (buffer .exit)) ⌝ }
+    ensures { λ r. ⌜ StreamResult (produced answer (streamOf kind wanted) (now (buffer .entry))) r (now (buffer .exit)) ⌝ }
 {
     match answer {
         Answer::Accepted => put_word(kind, wanted, buffer),

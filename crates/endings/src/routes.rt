@@ -7,8 +7,8 @@ ghost use Rattle.protocol.specs.declared.Answer.the-variants as Answer;
 ghost use Rattle.buffers.specs.write.Written.{Wrote};
 ghost use Rattle.route_session.specs.plan.Plan.{routeOf};
 ghost use Rattle.endings_spec.specs.Streams.{openStream};
-ghost use Rattle.endings.specs.Calls.{produced, checkRoute, streamRoute};
-ghost use Rattle.endings.specs.Coded.{Spells, Fills, Leaves, kindFor, opens, endFor, rowAt};
+ghost use Rattle.endings.specs.Calls.{produced, checkRoute, streamRoute, StreamResult};
+ghost use Rattle.endings.specs.Coded.{Spells, Fills, kindFor, opens, endFor, rowAt};
 use crate::Produced;
 use crate::place::put_found;
 use crate::words::Word;
@@ -131,7 +131,7 @@ fn put_row(
     buffer: &mut [u8],
 ) -> Produced
     requires { ⌜ count ≤ 8 ⌝ }
-    ensures { λ r. ⌜ Leaves (produced Answer.Accepted (rowAt (take count proxies) proxy wanted) (now (buffer .entry))) r (now (buffer .exit)) ⌝ }
+    ensures { λ r. ⌜ StreamResult (produced Answer.Accepted (rowAt (take count proxies) proxy wanted) (now (buffer .entry))) r (now (buffer .exit)) ⌝ }
 {
     let mut bytes = [0u8; 96];
     let row = fill(proxies, count, proxy, wanted, &mut bytes);
@@ -150,7 +150,7 @@ pub fn stream(
     wanted: OutcomeStatus,
     buffer: &mut [u8],
 ) -> Produced
-    ensures { λ r. ⌜ Leaves (streamRoute (routeOf (now (text .entry)) proxies count (now (host .entry)) port) proxy wanted (now (buffer .entry))) r (now (buffer .exit)) ⌝ }
+    ensures { λ r. ⌜ StreamResult (streamRoute (routeOf (now (text .entry)) proxies count (now (host .entry)) port) proxy wanted (now (buffer .entry))) r (now (buffer .exit)) ⌝ }
 {
     let answer = check(proxies, count, text, host, port);
     match answer {

@@ -2,8 +2,7 @@
 ghost use Rattle.endings_spec.specs.declared.Kind.the-variants as Kind;
 ghost use Rattle.lookup.specs.Chosen.{recordsOf};
 ghost use Rattle.endings_spec.specs.Streams.{streamOf};
-ghost use Rattle.endings.specs.Calls.{produced, stream4};
-ghost use Rattle.endings.specs.Coded.{Leaves};
+ghost use Rattle.endings.specs.Calls.{produced, stream4, StreamResult};
 use crate::Produced;
 use crate::place::answer_with;
 use client_session::Prepared;
@@ -15,7 +14,7 @@ use protocol::Record;
 
 // By what preparing returned.
 fn stream_prepared(prepared: Prepared, wanted: OutcomeStatus, buffer: &mut [u8]) -> Produced
-    ensures { λ r. ⌜ Leaves (produced (prepared .answer) (streamOf Kind.OverV4 wanted) (now (buffer .entry))) r (now (buffer .exit)) ⌝ }
+    ensures { λ r. ⌜ StreamResult (produced (prepared .answer) (streamOf Kind.OverV4 wanted) (now (buffer .entry))) r (now (buffer .exit)) ⌝ }
 {
     let answer = prepared.answer;
     answer_with(answer, Kind::OverV4, wanted, buffer)
@@ -30,7 +29,7 @@ pub fn stream_chosen(
     wanted: OutcomeStatus,
     buffer: &mut [u8],
 ) -> Produced
-    ensures { λ r. ⌜ Leaves (stream4 (record { localDns = «local_dns»; host = now (host .entry); port = port; records = recordsOf chosen }) wanted (now (buffer .entry))) r (now (buffer .exit)) ⌝ }
+    ensures { λ r. ⌜ StreamResult (stream4 (record { localDns = «local_dns»; host = now (host .entry); port = port; records = recordsOf chosen }) wanted (now (buffer .entry))) r (now (buffer .exit)) ⌝ }
 {
     let prepared = client_opening_v4::opening::prepare_chosen(local_dns, host, port, chosen);
     stream_prepared(prepared, wanted, buffer)
@@ -45,7 +44,7 @@ pub fn stream(
     wanted: OutcomeStatus,
     buffer: &mut [u8],
 ) -> Produced
-    ensures { λ r. ⌜ Leaves (stream4 (record { localDns = «local_dns»; host = now (host .entry); port = port; records = now (records .entry) }) wanted (now (buffer .entry))) r (now (buffer .exit)) ⌝ }
+    ensures { λ r. ⌜ StreamResult (stream4 (record { localDns = «local_dns»; host = now (host .entry); port = port; records = now (records .entry) }) wanted (now (buffer .entry))) r (now (buffer .exit)) ⌝ }
 {
     let prepared = client_opening_v4::opening::prepare(local_dns, host, port, records);
     stream_prepared(prepared, wanted, buffer)

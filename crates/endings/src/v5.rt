@@ -2,8 +2,8 @@
 ghost use Rattle.protocol.specs.declared.Version.the-variants as Version;
 ghost use Rattle.lookup.specs.Chosen.{recordsOf};
 ghost use Rattle.endings_spec.specs.Streams.{streamOf};
-ghost use Rattle.endings.specs.Calls.{produced, stream5};
-ghost use Rattle.endings.specs.Coded.{Leaves, kindBy};
+ghost use Rattle.endings.specs.Calls.{produced, stream5, StreamResult};
+ghost use Rattle.endings.specs.Coded.{kindBy};
 use crate::Produced;
 use crate::place::answer_with;
 use crate::words::kind_by;
@@ -22,7 +22,7 @@ fn stream_prepared(
     wanted: OutcomeStatus,
     buffer: &mut [u8],
 ) -> Produced
-    ensures { λ r. ⌜ Leaves (produced (prepared .answer) (streamOf (kindBy Version.V5 (config .«proxy_auth»)) wanted) (now (buffer .entry))) r (now (buffer .exit)) ⌝ }
+    ensures { λ r. ⌜ StreamResult (produced (prepared .answer) (streamOf (kindBy Version.V5 (config .«proxy_auth»)) wanted) (now (buffer .entry))) r (now (buffer .exit)) ⌝ }
 {
     let answer = prepared.answer;
     answer_with(
@@ -44,7 +44,7 @@ pub fn stream_chosen(
     wanted: OutcomeStatus,
     buffer: &mut [u8],
 ) -> Produced
-    ensures { λ r. ⌜ Leaves (stream5 (record { config = config; host = now (host .entry); port = port; user = now (user .entry); password = now (password .entry); records = recordsOf chosen }) wanted (now (buffer .entry))) r (now (buffer .exit)) ⌝ }
+    ensures { λ r. ⌜ StreamResult (stream5 (record { config = config; host = now (host .entry); port = port; user = now (user .entry); password = now (password .entry); records = recordsOf chosen }) wanted (now (buffer .entry))) r (now (buffer .exit)) ⌝ }
 {
     let prepared = client_opening_v5::opening::prepare_chosen(
         config,
@@ -68,7 +68,7 @@ pub fn stream(
     wanted: OutcomeStatus,
     buffer: &mut [u8],
 ) -> Produced
-    ensures { λ r. ⌜ Leaves (stream5 (record { config = config; host = now (host .entry); port = port; user = now (user .entry); password = now (password .entry); records = now (records .entry) }) wanted (now (buffer .entry))) r (now (buffer .exit)) ⌝ }
+    ensures { λ r. ⌜ StreamResult (stream5 (record { config = config; host = now (host .entry); port = port; user = now (user .entry); password = now (password .entry); records = now (records .entry) }) wanted (now (buffer .entry))) r (now (buffer .exit)) ⌝ }
 {
     let prepared = client_opening_v5::opening::prepare(config, host, port, user, password, records);
     stream_prepared(prepared, config, wanted, buffer)

@@ -12,19 +12,18 @@ use Rattle.protocol.specs.declared.Answer.the-variants.{Accepted}
 use Rattle.buffers.specs.write.Written.{overwrite, Wrote}
 use Rattle.endings.specs.declared.Produced.{Produced}
 use Rattle.endings.specs.declared.Produced.the-variants as Produced
-use Rattle.endings.specs.Calls.{Call, produced}
-use Rattle.endings.specs.Coded.{Leaves}
+use Rattle.endings.specs.Calls.{Call, produced, StreamResult}
 
 module _ {found : Bool} (t : found ≡ true) (bs buffer : List ℕ) where
-  pub short : length buffer < length bs → Leaves (produced Accepted (cond found (some bs) none) buffer) (Produced.Refused ShortStream) buffer
+  pub short : length buffer < length bs → StreamResult (produced Accepted (cond found (some bs) none) buffer) (Produced.Refused ShortStream) buffer
   short h = rw (t, lt-leb (length bs) (length buffer) h) (record { returned = refl; left = refl })
 
-  pub fits : length bs ≤ length buffer → {n : ℕ} {buffer′ : List ℕ} → Wrote buffer 0 bs n buffer′ → Leaves (produced Accepted (cond found (some bs) none) buffer) (Produced.Stream n) buffer′
+  pub fits : length bs ≤ length buffer → {n : ℕ} {buffer′ : List ℕ} → Wrote buffer 0 bs n buffer′ → StreamResult (produced Accepted (cond found (some bs) none) buffer) (Produced.Stream n) buffer′
   unfolding overwrite
   fits h w =
       rw (t, le-leb (length bs) (length buffer) h)
       (record { returned = ap Produced.Stream (w .place ∙ zero-add (length bs)); left = w .bytes ∙ ap (λ (k : ℕ). bs ++ drop k buffer) (zero-add (length bs)) })
 
 -- by another call that is the same
-pub as-call : {c d : Call} {r : Produced} {buffer : List ℕ} → c ≡ d → Leaves c r buffer → Leaves d r buffer
-as-call {c} {d} {r} {buffer} q l = subst (λ (x : Call). Leaves x r buffer) q l
+pub as-call : {c d : Call} {r : Produced} {buffer : List ℕ} → c ≡ d → StreamResult c r buffer → StreamResult d r buffer
+as-call {c} {d} {r} {buffer} q l = subst (λ (x : Call). StreamResult x r buffer) q l

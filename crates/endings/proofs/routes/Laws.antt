@@ -26,8 +26,8 @@ use Rattle.endings.specs.declared.Produced.{Produced}
 use Rattle.endings.specs.declared.Produced.the-variants as Produced
 use Rattle.endings.specs.declared.words.Word.{Word}
 use Rattle.endings.specs.declared.routes.Row.{Row}
-use Rattle.endings.specs.Calls.{Call, produced, checkRoute, streamRoute}
-use Rattle.endings.specs.Coded.{spelt, Spells, Fills, Leaves, kindFor, opens, endFor, rowAt}
+use Rattle.endings.specs.Calls.{Call, produced, checkRoute, streamRoute, StreamResult}
+use Rattle.endings.specs.Coded.{spelt, Spells, Fills, kindFor, opens, endFor, rowAt}
 use Rattle.endings.proofs.Checks.{accepted-size, counted-few, route-long}
 use Rattle.endings.proofs.words.Laws.{spelt-some, short}
 use Rattle.endings.proofs.routes.Rows.{stream-row, opens-more, row-none, row-past, row-at}
@@ -131,6 +131,6 @@ module _ (text : List ℕ) (ps : List Proxy) (eight : length ps ≡ 8) (count : 
       let u : streamAt (openings (routeOf text ps count host port)) proxy w ≡ rowAt (take count ps) proxy w = rw k t in
       λ i. produced ((sym a ∙ q) i) (sym u i) buffer
 
-  pub by-refusal : {e : SocksError} → x ≡ Refused e → Leaves (streamRoute (routeOf text ps count host port) proxy w buffer) (Produced.Refused e) buffer
+  pub by-refusal : {e : SocksError} → x ≡ Refused e → StreamResult (streamRoute (routeOf text ps count host port) proxy w buffer) (Produced.Refused e) buffer
   unfolding streamRoute
   by-refusal a = rw (sym q ∙ a) (record { returned = refl; left = refl })

@@ -45,7 +45,6 @@ use Rattle.protocol.proofs.Record as T
 use Rattle.protocol.proofs.Port as Prt
 use Rattle.protocol.proofs.Port.Laws as Prt′
 use Rattle.endings_spec.specs.declared.Kind.the-variants.{OverV4}
-use Rattle.endings.specs.Coded.{Leaves}
 use Rattle.client_session.specs.declared.Prepared.{Prepared}
 use Rattle.client_session.specs.Calls.{prepare4}
 use Rattle.client_session.proofs.Prepared as O
@@ -55,7 +54,7 @@ use Rattle.endings_spec.specs.Streams.{streamOf}
 use Rattle.endings_spec.proofs.OutcomeStatus as Ow
 use Rattle.endings_spec.proofs.OutcomeStatus.Laws as Ow′
 use Rattle.endings.specs.declared.Produced.{Produced}
-use Rattle.endings.specs.Calls.{produced, stream4}
+use Rattle.endings.specs.Calls.{produced, stream4, StreamResult}
 use Rattle.endings.proofs.Prepared.{prepared4}
 use Rattle.endings.proofs.place.Laws.{as-call}
 use Rattle.endings.proofs.Produced as Pr
@@ -187,7 +186,7 @@ module _ {M : Type 1} (𝓤 : URA M) (H : Heap 𝓤) (A : Atoms 𝓤) (W : Given
       move ! (2 ∷ []) $ fsplit ! $
       keep ! (15 ∷ 14 ∷ 12 ∷ 10 ∷ 11 ∷ 8 ∷ 9 ∷ 6 ∷ 7 ∷ 4 ∷ 5 ∷ 2 ∷ 3 ∷ 0 ∷ []) $ done !
 
-  exits : (y : Produced) (w : Val) (zs : List ℕ) → Leaves (stream4 given ow (bf .now)) y zs → length zs ≡ length (bf .now) → ent 𝓤 (⋆ 𝓤 H A (‵ (flft κ₁ q₁) ∷ ‵ (flft κ₂ q₂) ∷ ‵ (flft κ₃ q₃) ∷ ‵ Local ∷ ‵ Host ∷ ‵ Its-port ∷ ‵ Records ∷ ‵ Wanted ∷ ‵ (finally u8 (bf .name) zs) ∷ ‵ (Result .own y (w ∷ [])) ∷ [])) (Post w)
+  exits : (y : Produced) (w : Val) (zs : List ℕ) → StreamResult (stream4 given ow (bf .now)) y zs → length zs ≡ length (bf .now) → ent 𝓤 (⋆ 𝓤 H A (‵ (flft κ₁ q₁) ∷ ‵ (flft κ₂ q₂) ∷ ‵ (flft κ₃ q₃) ∷ ‵ Local ∷ ‵ Host ∷ ‵ Its-port ∷ ‵ Records ∷ ‵ Wanted ∷ ‵ (finally u8 (bf .name) zs) ∷ ‵ (Result .own y (w ∷ [])) ∷ [])) (Post w)
   exits y w zs e l =
       qed W (‵ (flft κ₁ q₁) ∷ ‵ (flft κ₂ q₂) ∷ ‵ (flft κ₃ q₃) ∷ ‵ Local ∷ ‵ Host ∷ ‵ Its-port ∷ ‵ Records ∷ ‵ Wanted ∷ ‵ (finally u8 (bf .name) zs) ∷ ‵ (Result .own y (w ∷ [])) ∷ []) ∵
       suffices ! _ (ends-at 𝓤 H A stream′.ended stayed (stream′.clauses 𝓤 H A mem run) W (((κ₁, (κ₂, (κ₃, tt))), (q₁, (q₂, (q₃, tt))), tt, x, at), tt) w y (tt, (tt, (tt, (tt, (tt, (zs, tt)))))) (tt, (tt, (tt, (tt, (tt, (l, tt))))))) $ says ! e $
@@ -198,7 +197,7 @@ module _ {M : Type 1} (𝓤 : URA M) (H : Heap 𝓤) (A : Atoms 𝓤) (W : Given
   said-prepare r = exE 𝓤 _ (λ ws. snd∗ 𝓤 (sem 𝓤 H A (lasts prepare.ended (κ₁, (κ₂, tt)) asks ws)) (fact 𝓤 (r ≡ prepare4 given)))
 
   abbrev Says : Prepared → Produced → List ℕ → Type 0
-  Says r y zs = Leaves (produced (r .answer) (streamOf OverV4 ow) (bf .now)) y zs
+  Says r y zs = StreamResult (produced (r .answer) (streamOf OverV4 ow) (bf .now)) y zs
 
   module _ (𝓒 : Calls 𝓤 H) (Λ : Loops 𝓤 H) (fm : FmC 𝓤 H (W .laws) 𝓒) (known-prepare : Triple 𝓤 (𝓒 #prepare) (Prepare 𝓤 H A mem run)) (known-answered : Triple 𝓤 (𝓒 #answered) (Answered 𝓤 H A mem run)) where
     walk : Room u8 (length (hs .now)) → Is P pt (pv ∷ []) → Room R (length (rs .now)) → Is OW ow (ov ∷ []) → Room u8 (length (bf .now)) → ent 𝓤 (⋆ 𝓤 H A Owned) (WpFn 𝓤 H 𝓒 Λ code.function (lv ∷ hv ∷ pv ∷ rv ∷ ov ∷ bv ∷ []) Post)

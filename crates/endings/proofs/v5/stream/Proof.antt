@@ -46,7 +46,7 @@ use Rattle.protocol.specs.declared.SocksConfig.{SocksConfig}
 use Rattle.protocol.specs.declared.Version.the-variants as Version
 use Rattle.protocol.proofs.SocksConfig as Cfg
 use Rattle.protocol.proofs.SocksConfig.Laws as Cfg′
-use Rattle.endings.specs.Coded.{Leaves, kindBy}
+use Rattle.endings.specs.Coded.{kindBy}
 use Rattle.client_session.specs.declared.Prepared.{Prepared}
 use Rattle.client_session.specs.Calls.{prepare5}
 use Rattle.client_session.proofs.Prepared as O
@@ -56,7 +56,7 @@ use Rattle.endings_spec.specs.Streams.{streamOf}
 use Rattle.endings_spec.proofs.OutcomeStatus as Ow
 use Rattle.endings_spec.proofs.OutcomeStatus.Laws as Ow′
 use Rattle.endings.specs.declared.Produced.{Produced}
-use Rattle.endings.specs.Calls.{produced, stream5}
+use Rattle.endings.specs.Calls.{produced, stream5, StreamResult}
 use Rattle.endings.proofs.Prepared.{prepared5}
 use Rattle.endings.proofs.place.Laws.{as-call}
 use Rattle.endings.proofs.Produced as Pr
@@ -205,7 +205,7 @@ module _ {M : Type 1} (𝓤 : URA M) (H : Heap 𝓤) (A : Atoms 𝓤) (W : Given
       move ! (2 ∷ []) $ fsplit ! $
       keep ! (22 ∷ 21 ∷ 20 ∷ 19 ∷ 17 ∷ 14 ∷ 15 ∷ 16 ∷ 12 ∷ 13 ∷ 10 ∷ 11 ∷ 8 ∷ 9 ∷ 6 ∷ 7 ∷ 4 ∷ 5 ∷ 2 ∷ 3 ∷ 0 ∷ []) $ done !
 
-  exits : (y : Produced) (w : Val) (zs : List ℕ) → Leaves (stream5 given ow (bf .now)) y zs → length zs ≡ length (bf .now) → ent 𝓤 (⋆ 𝓤 H A (‵ (flft κ₁ q₁) ∷ ‵ (flft κ₂ q₂) ∷ ‵ (flft κ₃ q₃) ∷ ‵ (flft κ₄ q₄) ∷ ‵ (flft κ₅ q₅) ∷ ‵ Config ∷ ‵ Host ∷ ‵ Its-port ∷ ‵ User ∷ ‵ Password ∷ ‵ Records ∷ ‵ Wanted ∷ ‵ (finally u8 (bf .name) zs) ∷ ‵ (Result .own y (w ∷ [])) ∷ [])) (Post w)
+  exits : (y : Produced) (w : Val) (zs : List ℕ) → StreamResult (stream5 given ow (bf .now)) y zs → length zs ≡ length (bf .now) → ent 𝓤 (⋆ 𝓤 H A (‵ (flft κ₁ q₁) ∷ ‵ (flft κ₂ q₂) ∷ ‵ (flft κ₃ q₃) ∷ ‵ (flft κ₄ q₄) ∷ ‵ (flft κ₅ q₅) ∷ ‵ Config ∷ ‵ Host ∷ ‵ Its-port ∷ ‵ User ∷ ‵ Password ∷ ‵ Records ∷ ‵ Wanted ∷ ‵ (finally u8 (bf .name) zs) ∷ ‵ (Result .own y (w ∷ [])) ∷ [])) (Post w)
   exits y w zs e l =
       qed W (‵ (flft κ₁ q₁) ∷ ‵ (flft κ₂ q₂) ∷ ‵ (flft κ₃ q₃) ∷ ‵ (flft κ₄ q₄) ∷ ‵ (flft κ₅ q₅) ∷ ‵ Config ∷ ‵ Host ∷ ‵ Its-port ∷ ‵ User ∷ ‵ Password ∷ ‵ Records ∷ ‵ Wanted ∷ ‵ (finally u8 (bf .name) zs) ∷ ‵ (Result .own y (w ∷ [])) ∷ []) ∵
       suffices ! _ (ends-at 𝓤 H A stream′.ended stayed (stream′.clauses 𝓤 H A mem run) W (((κ₁, (κ₂, (κ₃, (κ₄, (κ₅, tt))))), (q₁, (q₂, (q₃, (q₄, (q₅, tt))))), tt, x, at), tt) w y (tt, (tt, (tt, (tt, (tt, (tt, (tt, (zs, tt)))))))) (tt, (tt, (tt, (tt, (tt, (tt, (tt, (l, tt))))))))) $ says ! e $
@@ -216,7 +216,7 @@ module _ {M : Type 1} (𝓤 : URA M) (H : Heap 𝓤) (A : Atoms 𝓤) (W : Given
   said-prepare r = exE 𝓤 _ (λ ws. snd∗ 𝓤 (sem 𝓤 H A (lasts prepare.ended (κ₁, (κ₂, (κ₃, (κ₄, tt)))) asks ws)) (fact 𝓤 (r ≡ prepare5 given)))
 
   abbrev Says : Prepared → Produced → List ℕ → Type 0
-  Says r y zs = Leaves (produced (r .answer) (streamOf (kindBy Version.V5 (cf .«proxy_auth»)) ow) (bf .now)) y zs
+  Says r y zs = StreamResult (produced (r .answer) (streamOf (kindBy Version.V5 (cf .«proxy_auth»)) ow) (bf .now)) y zs
 
   module _ (𝓒 : Calls 𝓤 H) (Λ : Loops 𝓤 H) (fm : FmC 𝓤 H (W .laws) 𝓒) (known-prepare : Triple 𝓤 (𝓒 #prepare) (Prepare 𝓤 H A mem run)) (known-answered : Triple 𝓤 (𝓒 #answered) (Answered 𝓤 H A mem run)) where
     walk : Is C cf (cv ∷ []) → Room u8 (length (hs .now)) → Is P pt (pv ∷ []) → Room u8 (length (us .now)) → Room u8 (length (ps .now)) → Room R (length (rs .now)) → Is OW ow (ov ∷ []) → Room u8 (length (bf .now)) → ent 𝓤 (⋆ 𝓤 H A Owned) (WpFn 𝓤 H 𝓒 Λ code.function (cv ∷ hv ∷ pv ∷ uv ∷ wv ∷ rv ∷ ov ∷ bv ∷ []) Post)
