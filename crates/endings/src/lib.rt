@@ -1,9 +1,9 @@
 // F-12: the shortest reply stream that gives a wanted outcome and status when end of stream follows, for a session of either version and for a route.
-pub mod place;
+mod place;
 pub mod routes;
 pub mod v4;
 pub mod v5;
-pub mod words;
+mod words;
 
 use protocol::SocksError;
 
