@@ -14,6 +14,7 @@ use Rattle.endings_spec.specs.declared.Kind.the-variants.{WithoutCredentials, W
 use Rattle.endings_spec.specs.declared.OutcomeStatus.{OutcomeStatus}
 use Rattle.endings_spec.specs.Streams.{openStream, streamOf, joined}
 use Rattle.endings.specs.declared.Produced.{Produced}
+use Rattle.endings.specs.declared.Produced.the-variants.{Stream}
 use Rattle.endings.specs.declared.words.Word.{Word}
 use Rattle.endings.specs.declared.routes.Row.{Row}
 use Rattle.endings.specs.Calls.{Call}
@@ -31,10 +32,11 @@ pub record Fills (r : Row) (out : List ℕ) (s : Option (List ℕ)) : Type 0 whe
   pub is : spelt (r .found) (r .len) out ≡ s
   pub within : r .len ≤ length out
 
--- what a function returns and leaves in the buffer, as a call says
+-- what a function returns and leaves in the buffer, as a call says; with the bound that a caller slices by
 pub record Leaves (c : Call) (r : Produced) (buffer : List ℕ) : Type 0 where
   pub returned : r ≡ c .answer
   pub left : buffer ≡ c .buffer
+  pub inside : (n : ℕ) → r ≡ Stream n → n ≤ length buffer
 
 abbrev pub kindBy : Version → Bool → Kind
 kindBy V5 true = WithCredentials
