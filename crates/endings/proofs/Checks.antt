@@ -1,17 +1,16 @@
 -- The checks of a route but its output are those of its opening with output enough.
-use Prim.Native.Nat.{ℕ, _-_, _*_, _≤_, _<_}
+use Prim.Native.Nat.{ℕ, _-_, _≤_, _<_}
 use native.Mathlib.Omega.{arith}
-use mathlib.Core.Path.{_≡_, refl, ap, sym, _∙_}
-use mathlib.Core.Logic.{_⊎_, inl, inr}
+use mathlib.Core.Path.{_≡_, refl, sym, _∙_}
+use mathlib.Core.Logic.{inl, inr}
 use mathlib.Core.Bool.{Bool, true, false, _||_, true≢false}
-use mathlib.Core.List.{List, [], _∷_, _++_, append-nil}
+use mathlib.Core.List.{List, _∷_, append-nil}
 use lib.ListN.{length, take, replicate, length-take, length-append, length-replicate, length-map}
 use lib.Dec.{ltb, eqb}
 use borrow.Author.Tests.{eq-eqb, le-ltb, ltb-false}
 use Rattle.protocol.specs.declared.Port.{Port}
 use Rattle.protocol.specs.declared.Answer as code
-use Rattle.protocol.specs.declared.Answer.the-variants.{Accepted, Refused}
-use Rattle.protocol.specs.declared.SocksError.{SocksError}
+use Rattle.protocol.specs.declared.Answer.the-variants.{Accepted}
 use Rattle.protocol.specs.declared.SocksError.the-variants.{ShortOutput, RouteLength}
 use Rattle.protocol.specs.Numbers.{answerNumber}
 use Rattle.protocol.specs.Opening.{Condition, First, Answers, refuse}

@@ -1,7 +1,7 @@
 -- F-12 at the calls: a stream that leads somewhere ends there when it is delivered and end of stream follows.
 use Prim.Native.Nat.{ℕ}
 use native.Mathlib.Omega.{arith}
-use mathlib.Core.Path.{_≡_, refl, ap, sym, _∙_}
+use mathlib.Core.Path.{_≡_, refl, ap, _∙_}
 use mathlib.Core.Logic.{_⊎_, inl, inr}
 use Rattle.protocol.specs.declared.Answer as code
 use Rattle.protocol.specs.declared.Answer.the-variants.{Accepted, Refused}
@@ -20,7 +20,6 @@ use Rattle.route_session.specs.calls.Calls as route
 use Rattle.route.specs.Turns as route-turns
 use Rattle.route.proofs.Turns as route-turned
 use Rattle.route.proofs.Attempts.{through}
-use Rattle.endings_spec.specs.declared.OutcomeStatus.{OutcomeStatus}
 use Rattle.endings_spec.specs.Endings.{endingOf}
 use Rattle.endings.specs.Led.{Led5, Led4, LedRoute}
 

@@ -1,9 +1,9 @@
 -- F-12's promise at the calls: what is answered and written; and a stream that leads somewhere ends there when it is delivered.
-use Prim.Native.Nat.{ℕ, _≤_, _<_}
+use Prim.Native.Nat.{ℕ, _<_}
 use native.Mathlib.Omega.{arith}
-use mathlib.Core.Path.{_≡_, refl, ap, sym, _∙_}
+use mathlib.Core.Path.{_≡_, refl, ap, sym}
 use mathlib.Core.Logic.{_↔_}
-use mathlib.Core.Bool.{Bool, true, false, not, false≢true}
+use mathlib.Core.Bool.{Bool, true, false, false≢true}
 use mathlib.Core.Option.{Option, none, some}
 use mathlib.Core.List.{List, [], _∷_, _++_}
 use lib.ListN.{length, drop}
@@ -13,7 +13,7 @@ use Rattle.protocol.specs.declared.SocksError.the-variants.{ShortStream}
 use Rattle.protocol.specs.declared.Answer as code
 use Rattle.protocol.specs.declared.Answer.the-variants.{Accepted, Refused}
 use Rattle.protocol.specs.Numbers.{number, answerNumber}
-use Rattle.protocol.specs.Opening.{Condition, _↣_, None, Answers, refuse, check5, check4, opening5, opening4}
+use Rattle.protocol.specs.Opening.{Condition, _↣_, Answers, refuse, check5, check4, opening5, opening4}
 use Rattle.protocol.proofs.Claims.{answers-behind, answers-before}
 use Rattle.protocol.proofs.Openings.{all-passed, checked, check5-just, check4-just}
 use Rattle.protocol.proofs.Limits.{number-is}
@@ -23,7 +23,7 @@ use Rattle.endings_spec.specs.Streams.{streamFor, streamAt}
 use Rattle.endings_spec.proofs.Order.{wanted-somewhere, wanted-once}
 use Rattle.endings_spec.proofs.Streams.{stream-wanted, stream-nowhere, route-stream-wanted, route-stream-nowhere}
 use Rattle.endings.specs.Calls.{placed, produced, stream5, stream4, checkRoute, streamRoute}
-use Rattle.endings.specs.Produces.{Produces, Produces5, Produces4, routeConditions, ProducesRoute}
+use Rattle.endings.specs.Produces.{Produces, Produces5, Produces4, ProducesRoute}
 use Rattle.endings.proofs.Checks.{route-just}
 
 module _ (cs : List Condition) (To : List ℕ → Type 0) (buffer : List ℕ) where

@@ -1,5 +1,5 @@
 -- F-12: what each call that produces a stream answers, and the buffer that it leaves, for any arguments.
-use Prim.Native.Nat.{ℕ}
+use Prim.Native.Nat.{ℕ, _≤_}
 use mathlib.Core.Path.{_≡_}
 use mathlib.Core.Bool.{Bool, cond, _||_}
 use mathlib.Core.Option.{Option, none, some}
@@ -24,10 +24,11 @@ pub record Call : Type 0 where
 abbrev pub unwritten : Produced → List ℕ → Call
 unwritten answer buffer = record { answer = answer; buffer = buffer }
 
--- what a function returns, and the buffer that it leaves, are the call's
+-- what a function returns, and the buffer that it leaves, are the call's; a stream's length is within the buffer
 pub record StreamResult (c : Call) (r : Produced) (buffer : List ℕ) : Type 0 where
   pub returned : r ≡ c .answer
   pub left : buffer ≡ c .buffer
+  pub inside : (n : ℕ) → r ≡ Produced.Stream n → n ≤ length buffer
 
 -- a stream for a buffer that has room for it, or has not
 abbrev pub placed : Bool → List ℕ → List ℕ → Call

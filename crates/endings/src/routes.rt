@@ -1,7 +1,7 @@
 // The stream for what is wanted of a route, at a proxy counted from 1: the open streams of those before it, then its own.
 ghost use mathlib.Core.Path.{_≡_};
 ghost use Prim.Native.Nat.{_+_, _*_, _≤_};
-ghost use lib.ListN.{length, take, replicate};
+ghost use lib.ListN.{length, take};
 ghost use mathlib.Core.Bool.{false};
 ghost use Rattle.protocol.specs.declared.Answer.the-variants as Answer;
 ghost use Rattle.buffers.specs.write.Written.{Wrote};

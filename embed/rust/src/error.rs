@@ -50,12 +50,14 @@ pub enum Error {
     OutOfOrder,
     /// 23: an address `0.0.0.x`, which over SOCKS4 would announce a name.
     AnnouncesName,
+    /// 27: the buffer is too short for the stream. Not met by calls of this crate.
+    ShortStream,
 }
 
 use Error::*;
 
 /// All errors, 15 with a status.
-const fn all(status: u8) -> [Error; 22] {
+const fn all(status: u8) -> [Error; 23] {
     [
         ShortOutput,
         MissingHost,
@@ -79,6 +81,7 @@ const fn all(status: u8) -> [Error; 22] {
         RouteLength,
         OutOfOrder,
         AnnouncesName,
+        ShortStream,
     ]
 }
 
@@ -108,6 +111,7 @@ impl Error {
             RouteLength => 21,
             OutOfOrder => 22,
             AnnouncesName => 23,
+            ShortStream => 27,
         }
     }
 
@@ -156,6 +160,7 @@ impl Error {
             RouteLength => "a route has one to eight proxies",
             OutOfOrder => "the session is not started, or already was",
             AnnouncesName => "over SOCKS4 an address 0.0.0.x announces a name",
+            ShortStream => "the stream buffer is too short",
         }
     }
 

@@ -18,7 +18,7 @@ fn table() -> Vec<(String, u8)> {
 #[test]
 fn numbers_and_names_are_the_librarys() {
     let table = table();
-    assert!(table.len() >= 22);
+    assert!(table.len() >= 23);
     for number in 0..=255 {
         let found = Error::from_number(number, 9);
         let wanted = table.iter().find(|entry| entry.1 == number);

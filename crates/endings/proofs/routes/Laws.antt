@@ -4,9 +4,9 @@ use native.Mathlib.Nat.{zero-add}
 use native.Mathlib.Omega.{arith}
 use mathlib.Core.Path.{_≡_, refl, ap, sym, subst, _∙_}
 use mathlib.Core.Bool.{Bool, true, false}
-use mathlib.Core.Option.{Option, none, some}
+use mathlib.Core.Option.{some}
 use mathlib.Core.List.{List, [], _++_}
-use lib.ListN.{length, getD, take, drop, replicate, length-append, length-take}
+use lib.ListN.{length, getD, take, drop, replicate}
 use lib.Seq.{take-at, take-take, getD-take, length-take-le}
 use borrow.Author.Tests.{eq-eqb, ne-eqb}
 use Rattle.protocol.specs.declared.Port.{Port}
@@ -15,9 +15,9 @@ use Rattle.protocol.specs.declared.Answer as code
 use Rattle.protocol.specs.declared.Answer.the-variants.{Accepted, Refused}
 use Rattle.buffers.specs.write.Written.{overwrite, Wrote}
 use Rattle.buffers.proofs.write.Laws.{wrote-length, then}
-use Rattle.route_spec.specs.Route.{openings, askedOf, openingFor}
+use Rattle.route_spec.specs.Route.{openings}
 use Rattle.route_session.specs.declared.plan.Proxy.{Proxy}
-use Rattle.route_session.specs.plan.Plan.{proxiesOf, routeOf}
+use Rattle.route_session.specs.plan.Plan.{routeOf}
 use Rattle.endings_spec.specs.declared.Kind.{Kind}
 use Rattle.endings_spec.specs.declared.Kind.the-variants.{WithoutCredentials, WithCredentials, OverV4}
 use Rattle.endings_spec.specs.declared.OutcomeStatus.{OutcomeStatus}
@@ -26,10 +26,11 @@ use Rattle.endings.specs.declared.Produced.{Produced}
 use Rattle.endings.specs.declared.Produced.the-variants as Produced
 use Rattle.endings.specs.declared.words.Word.{Word}
 use Rattle.endings.specs.declared.routes.Row.{Row}
-use Rattle.endings.specs.Calls.{Call, produced, checkRoute, streamRoute, StreamResult}
+use Rattle.endings.specs.Calls.{StreamResult, produced, checkRoute, streamRoute}
 use Rattle.endings.specs.Coded.{spelt, Spells, Fills, kindFor, opens, endFor, rowAt}
 use Rattle.endings.proofs.Checks.{accepted-size, counted-few, route-long}
 use Rattle.endings.proofs.words.Laws.{spelt-some, short}
+use Rattle.endings.proofs.place.Laws.{refuses}
 use Rattle.endings.proofs.routes.Rows.{stream-row, opens-more, row-none, row-past, row-at}
 
 -- ---- the stream by which a proxy opens
@@ -133,4 +134,4 @@ module _ (text : List ℕ) (ps : List Proxy) (eight : length ps ≡ 8) (count : 
 
   pub by-refusal : {e : SocksError} → x ≡ Refused e → StreamResult (streamRoute (routeOf text ps count host port) proxy w buffer) (Produced.Refused e) buffer
   unfolding streamRoute
-  by-refusal a = rw (sym q ∙ a) (record { returned = refl; left = refl })
+  by-refusal {e} a = rw (sym q ∙ a) (refuses e buffer)
