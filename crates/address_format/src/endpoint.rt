@@ -1,4 +1,4 @@
-// An address and its port, written as text. Each `put_` function but the last puts its bytes from a place on, and answers the place behind them.
+// F-1: an address and its port, written as text. Each `put_` function but the last puts its bytes from a place on, and answers the place behind them.
 ghost use mathlib.Core.Path.{_≡_};
 ghost use Prim.Native.Nat.{_+_, _≤_};
 ghost use lib.ListN.{length};

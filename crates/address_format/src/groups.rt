@@ -1,4 +1,4 @@
-// Rows of numbers, and the groups of an IPv6 address, written as text. Each `put_` function puts its bytes from a place on, and answers the place
+// F-1: rows of numbers, and the groups of an IPv6 address, written as text. Each `put_` function puts its bytes from a place on, and answers the place
 // behind them.
 ghost use mathlib.Core.Path.{_≡_};
 ghost use mathlib.Core.Bool.{cond};

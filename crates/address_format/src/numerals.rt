@@ -1,4 +1,4 @@
-// Numbers as text. Each `put_` function puts its bytes into the output from a place on, and answers the place behind them.
+// F-1: numbers as text. Each `put_` function puts its bytes into the output from a place on, and answers the place behind them.
 ghost use mathlib.Core.Path.{_≡_};
 ghost use Prim.Native.Nat.{_+_, _*_, _≤_, _<_};
 ghost use mathlib.Core.List.{_∷_, []};

@@ -1,4 +1,4 @@
-// Address text: what a host stands for.
+// 01, "Address text": what a host stands for.
 
 ghost use mathlib.Core.Path.{_≡_};
 ghost use mathlib.Core.Bool.{true};

@@ -1,4 +1,4 @@
-// Digits at the start of a text, decimal or hexadecimal, and what follows them.
+// 01, "Address text": digits at the start of a text, decimal or hexadecimal, and what follows them.
 ghost use mathlib.Core.Path.{_≡_};
 ghost use Prim.Native.Nat.{_+_, _*_, _≤_};
 ghost use Rattle.protocol.specs.AddressReading.{hexValue, markAt, followsAt};

@@ -1,4 +1,4 @@
-// A row of groups of IPv6 text, read.
+// 01, "Address text": a row of groups of IPv6 text, read.
 
 ghost use mathlib.Core.Path.{_≡_};
 ghost use mathlib.Core.List.{List};

@@ -1,4 +1,4 @@
-// The host: its brackets and its bytes.
+// 01, "Host": its brackets and its bytes.
 ghost use mathlib.Core.Path.{_≡_};
 ghost use Prim.Native.Nat.{max};
 ghost use Rattle.protocol.specs.Host.{strip, allAllowed};

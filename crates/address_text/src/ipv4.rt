@@ -1,4 +1,4 @@
-// IPv4 text, read: four numbers, split by dots.
+// 01, "Address text": IPv4 text, read: four numbers, split by dots.
 
 ghost use mathlib.Core.Path.{_≡_};
 ghost use mathlib.Core.Option.{none};

@@ -1,4 +1,4 @@
-// IPv6 text, read: eight groups, or fewer with `::`.
+// 01, "Address text": IPv6 text, read: eight groups, or fewer with `::`.
 
 ghost use mathlib.Core.Path.{_≡_};
 ghost use mathlib.Core.List.{_++_};

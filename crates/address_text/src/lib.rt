@@ -1,4 +1,4 @@
-// Host text read: brackets, allowed bytes, IPv4 and IPv6 addresses, else a name.
+// 01, "Host" and "Address text": host text read: brackets, allowed bytes, IPv4 and IPv6 addresses, else a name.
 pub mod address;
 pub mod digits;
 pub mod groups;

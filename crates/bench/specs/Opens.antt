@@ -1,4 +1,4 @@
--- What the program answers a destination with, and what comes of it.
+-- F-3: what the program answers a destination with, and what comes of it.
 use Prim.Native.Nat.{ℕ, _≤_}
 use mathlib.Core.Path.{_≡_}
 use Rattle.proxy_spec.specs.declared.Stage.{Stage}

@@ -1,4 +1,4 @@
-// The proxy's end for a real client, on standard input and output: `bench FILE [USER PASSWORD]`. It serves one handshake and answers success;
+// F-3: the proxy's end for a real client, on standard input and output: `bench FILE [USER PASSWORD]`. It serves one handshake and answers success;
 // the start of FILE goes out with its last reply, in one write. What was asked for and how it ended is said on standard error.
 use input::places::part;
 use libc::STDERR_FILENO;

@@ -1,4 +1,4 @@
-// The start of a hold of any length: the undecided rest of its bytes and a piece, or an address that was found in them, kept there.
+// 01, "a fixed hold", and F-2: the start of a hold of any length: the undecided rest of its bytes and a piece, or an address that was found in them, kept there.
 ghost use mathlib.Core.Path.{_≡_};
 ghost use mathlib.Core.List.{_++_};
 ghost use Prim.Native.Nat.{_+_, _-_, _≤_};

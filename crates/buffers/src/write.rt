@@ -1,4 +1,4 @@
-// Bytes written into a buffer at a place. Its callers see to it that there is room.
+// 01, "Delivery": bytes written into a buffer at a place. Its callers see to it that there is room.
 ghost use mathlib.Core.Path.{_≡_};
 ghost use mathlib.Core.List.{[], _∷_};
 ghost use Prim.Native.Nat.{_+_, _≤_, _<_, min};

@@ -1,4 +1,4 @@
-// The address and port that a whole reply names, found in the held bytes and the piece where they stand, and kept at the start of the hold.
+// F-1: the address and port that a whole reply names, found in the held bytes and the piece where they stand, and kept at the start of the hold.
 ghost use mathlib.Core.Path.{_≡_};
 ghost use mathlib.Core.List.{_++_};
 ghost use Prim.Native.Nat.{_+_, _≤_};

@@ -1,4 +1,4 @@
-// A delivery to a session that waits or has settled, without the session: what is answered, what the piece comes to, and what is sent of it.
+// 01, "Delivery", and F-2: a delivery to a session that waits or has settled, without the session: what is answered, what the piece comes to, and what is sent of it.
 ghost use mathlib.Core.Path.{_≡_};
 ghost use Prim.Native.Nat.{_+_, _≤_};
 ghost use lib.ListN.{length};

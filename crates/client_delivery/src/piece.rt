@@ -1,4 +1,4 @@
-// A piece taken by a session that waits: what its turns come to, and the undecided rest, or the bound address, kept at the start of the hold.
+// 01, "Delivery", and F-2: a piece taken by a session that waits: what its turns come to, and the undecided rest, or the bound address, kept at the start of the hold.
 ghost use mathlib.Core.Path.{_≡_};
 ghost use mathlib.Core.List.{_++_};
 ghost use Prim.Native.Nat.{_+_, _-_, _≤_};

@@ -1,4 +1,4 @@
-// The turns of a delivery: replies read from the held bytes and the piece, one after the other, with what they make due counted.
+// 01, "Delivery", and F-2: the turns of a delivery: replies read from the held bytes and the piece, one after the other, with what they make due counted.
 ghost use mathlib.Core.Path.{_≡_};
 ghost use mathlib.Core.List.{_++_};
 ghost use Prim.Native.Nat.{_+_, _≤_};

@@ -1,4 +1,4 @@
-// What is checked before a session is opened, in its order.
+// 01, "Opening v5" and "Opening v4", and F-7: what is checked before a session is opened, in its order.
 ghost use mathlib.Core.Path.{_≡_};
 ghost use mathlib.Core.Bool.{not, _&&_};
 ghost use mathlib.Core.List.{[]};

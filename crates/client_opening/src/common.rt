@@ -1,4 +1,4 @@
-// What preparing has in common over both versions: what is asked for, and what is kept.
+// 01, "Opening v5" and "Opening v4", and F-7: what preparing has in common over both versions: what is asked for, and what is kept.
 ghost use mathlib.Core.Path.{_≡_};
 ghost use mathlib.Core.Bool.{_&&_};
 ghost use Rattle.protocol.specs.Opening.{portNumber};

@@ -1,4 +1,4 @@
-// What a host is as address text, and how many records of a lookup's list preparing reads.
+// 01, "Host" and "Lookup": what a host is as address text, and how many records of a lookup's list preparing reads.
 ghost use mathlib.Core.Path.{_≡_};
 ghost use mathlib.Core.Bool.{_&&_, not, cond};
 ghost use mathlib.Core.List.{[]};

@@ -1,4 +1,4 @@
-// What an accepted opening over SOCKS4 or SOCKS4A keeps: its request.
+// 01, "Opening v4" and "v4 request", and F-7: what an accepted opening over SOCKS4 or SOCKS4A keeps: its request.
 ghost use mathlib.Core.Path.{_≡_};
 ghost use Prim.Native.Nat.{_≤_};
 ghost use lib.ListN.{length, replicate};

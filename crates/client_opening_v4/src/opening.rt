@@ -1,4 +1,4 @@
-// Preparing a session over SOCKS4 and SOCKS4A.
+// 01, "Opening v4" and "v4 request", and F-7: preparing a session over SOCKS4 and SOCKS4A.
 ghost use mathlib.Core.Path.{_≡_};
 ghost use mathlib.Core.Bool.{_&&_, not};
 ghost use mathlib.Core.List.{[]};

@@ -1,4 +1,4 @@
-// What an accepted opening over SOCKS5 keeps: its requests, written one behind the other.
+// 01, "Opening v5" and "v5 requests", and F-7: what an accepted opening over SOCKS5 keeps: its requests, written one behind the other.
 ghost use mathlib.Core.Path.{_≡_};
 ghost use mathlib.Core.Bool.{true};
 ghost use Prim.Native.Nat.{_+_, _≤_};

@@ -1,3 +1,3 @@
-// `v5::prepare`.
+// 01, "Opening v5" and "v5 requests", and F-7: `v5::prepare`.
 pub mod kept;
 pub mod opening;

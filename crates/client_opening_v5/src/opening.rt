@@ -1,4 +1,4 @@
-// Preparing a session over SOCKS5.
+// 01, "Opening v5" and "v5 requests", and F-7: preparing a session over SOCKS5.
 ghost use mathlib.Core.Path.{_≡_};
 ghost use mathlib.Core.Bool.{_&&_};
 ghost use lib.ListN.{replicate};

@@ -1,4 +1,4 @@
--- What each call answers and leaves, for any arguments. A call's answer, session, counts and output are one record.
+-- 01, "The call: the session": what each call answers and leaves, for any arguments. A call's answer, session, counts and output are one record.
 use Prim.Native.Nat.{ℕ, _-_, _≤_}
 use mathlib.Core.Path.{_≡_}
 use mathlib.Core.Bool.{Bool, true, false, cond, not}

@@ -1,4 +1,4 @@
--- The session as the calls hold it, and the session of a handshake's side that it stands for.
+-- 01, "The call: the session": the session as the calls hold it, and the session of a handshake's side that it stands for.
 use Prim.Native.Nat.{ℕ, _+_, _%_, _^_}
 use mathlib.Core.Bool.{cond}
 use mathlib.Core.List.{List, [], _++_}

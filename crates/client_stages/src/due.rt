@@ -1,4 +1,4 @@
-// What a session keeps to send, and how much of it a reply makes due.
+// 01, "The call: the session": what a session keeps to send, and how much of it a reply makes due.
 ghost use mathlib.Core.Path.{_≡_};
 ghost use Rattle.client_stages.specs.due.Due.{unlessGone, authenticationDue, proxyDue, dueAfterMethod, dueAfter, dueJudged, dueFrom, authenticationFirst, isUserPass};
 use buffers::write::least;

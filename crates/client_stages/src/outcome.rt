@@ -1,4 +1,4 @@
-// What a session's stage tells, and what the end of the stream makes of it.
+// 01, "End of stream": what a session's stage tells, and what the end of the stream makes of it.
 ghost use mathlib.Core.Path.{_≡_};
 ghost use mathlib.Core.List.{List};
 ghost use Prim.Native.Nat.{ℕ};

@@ -1,4 +1,4 @@
-// What a start answers, and how much of the requests that a session keeps it sends.
+// F-7: what a start answers, and how much of the requests that a session keeps it sends.
 ghost use mathlib.Core.Path.{_≡_};
 ghost use Rattle.protocol.specs.Client.{firstRoom};
 ghost use Rattle.client_stages.specs.start.Starting.{firstSize5, firstSize, refused, startAwaiting, startAt};

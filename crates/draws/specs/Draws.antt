@@ -1,4 +1,4 @@
--- The load: a 32-bit state from a seed; a draw replaces it and yields its top 16 bits.
+-- F-13: the load: a 32-bit state from a seed; a draw replaces it and yields its top 16 bits.
 use Prim.Native.Nat.{ℕ, _+_, _*_, _/_, _%_, _^_, min}
 use mathlib.Core.Bool.{Bool, cond}
 use lib.Dec.{eqb}

@@ -1,4 +1,4 @@
-// The load: what is drawn for a handshake, and how its replies are cut into pieces.
+// F-13: the load: what is drawn for a handshake, and how its replies are cut into pieces.
 ghost use mathlib.Core.Path.{_≡_};
 ghost use Prim.Native.Nat.{_≤_, _<_};
 ghost use Rattle.draws.specs.Draws.{drawOf, choiceOf, pieceOf};

@@ -1,4 +1,4 @@
--- The third argument: the word `bytes`.
+-- F-13: the third argument: the word `bytes`.
 use Prim.Native.Nat.{ℕ}
 use mathlib.Core.List.{List, [], _∷_}
 

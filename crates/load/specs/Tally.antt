@@ -1,4 +1,4 @@
--- What is counted of the handshakes.
+-- F-13: what is counted of the handshakes.
 use Prim.Native.Nat.{ℕ, _+_, _%_, _^_}
 use mathlib.Core.Bool.{Bool, true, false, cond}
 use mathlib.Core.List.{List, [], _∷_}

@@ -1,4 +1,4 @@
-// A lookup's answers: a lent list of records, and the one of them that an opening takes.
+// 01, "Lookup": a lookup's answers: a lent list of records, and the one of them that an opening takes.
 ghost use mathlib.Core.Path.{_≡_};
 ghost use lib.ListN.{take};
 ghost use mathlib.Core.Bool.{not, _&&_};

@@ -1,4 +1,4 @@
--- Address text, read: the destination that a text stands for. proofs/Destinations.antt holds it to the grammar.
+-- 01, "Address text": address text, read: the destination that a text stands for. proofs/Destinations.antt holds it to the grammar.
 use Prim.Native.Nat.{ℕ, zero, suc, _+_, _-_, _*_}
 use mathlib.Core.Option.{Option, none, some}
 use mathlib.Core.List.{List, [], _∷_, _++_}

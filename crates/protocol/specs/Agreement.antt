@@ -1,4 +1,4 @@
--- The plain machine's state that the client's talk, fed with bytes, stands for.
+-- 01, "The plain machine": the plain machine's state that the client's talk, fed with bytes, stands for.
 use Rattle.protocol.specs.declared.Reply.{Reply}
 use Rattle.protocol.specs.declared.SocksError.{SocksError}
 use Rattle.protocol.specs.Bound.{Endpoint}

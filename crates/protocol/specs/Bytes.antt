@@ -1,4 +1,4 @@
--- Byte strings are lists of numbers.
+-- 01, bytes and fields: byte strings are lists of numbers.
 use Prim.Native.Nat.{ℕ, _+_, _*_, _-_, _≤_, _/_, _%_}
 use mathlib.Core.List.{List, [], _∷_, _++_, List·Memᴰ}
 use lib.ListN.{length, replicate, getD}

@@ -1,4 +1,4 @@
--- The client as a side of a handshake: its stages are the replies that it waits for. Written apart from the plain machine.
+-- 01, "The call: the session": the client as a side of a handshake: its stages are the replies that it waits for. Written apart from the plain machine.
 use Prim.Native.Nat.{ℕ}
 use mathlib.Core.Path.{_≡_}
 use mathlib.Core.Bool.{Bool, true, false}

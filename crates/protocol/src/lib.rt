@@ -1,4 +1,4 @@
-// The plain data and the sizes that the definitions in specs/ and the code above share. There is no function.
+// 01 and 02: the plain data and the sizes that the definitions in specs/ and the code above share. There is no function.
 
 // A session's hold: a reply that is not decided has at most so many bytes (01; `undecided-261`).
 pub const HOLD: usize = 261;

@@ -1,4 +1,4 @@
-// What follows a whole field of a client's requests: what the end says, and which field it then awaits, or how it stands.
+// F-3: what follows a whole field of a client's requests: what the end says, and which field it then awaits, or how it stands.
 ghost use mathlib.Core.Path.{_≡_};
 ghost use mathlib.Core.List.{_++_};
 ghost use Rattle.proxy_decisions.specs.decision.Due.{goesTo, failsWith, asksIn, behindGreeting, dueFirst, dueMethods, duePassword, dueHead, dueAddress, dueRequest, dueUserId, dueAt};

@@ -1,4 +1,4 @@
-// What the last field of a client's requests asks for: found in its bytes, kept at the start of the hold, and handed out.
+// F-3: what the last field of a client's requests asks for: found in its bytes, kept at the start of the hold, and handed out.
 ghost use mathlib.Core.Path.{_≡_};
 ghost use mathlib.Core.List.{_++_};
 ghost use Prim.Native.Nat.{_+_, _-_, _≤_};

@@ -1,4 +1,4 @@
-// What the bytes of a whole field say: the methods offered, whether a text is the one that is set, the seven bytes of a v4 request. In each `held`
+// F-3: what the bytes of a whole field say: the methods offered, whether a text is the one that is set, the seven bytes of a v4 request. In each `held`
 // and then `piece` are the bytes of the field, and no others.
 ghost use mathlib.Core.Path.{_≡_};
 ghost use mathlib.Core.List.{_++_};

@@ -1,4 +1,4 @@
-// A delivery to the proxy's end, without the value: whether the piece is taken, and what it comes to.
+// F-3: a delivery to the proxy's end, without the value: whether the piece is taken, and what it comes to.
 ghost use mathlib.Core.Path.{_≡_};
 ghost use lib.ListN.{length};
 ghost use Rattle.proxy_spec.specs.declared.Stage.the-variants as Stage;

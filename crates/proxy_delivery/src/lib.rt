@@ -1,4 +1,4 @@
-// A piece, on plain values: fields read in turn, what is kept, what is answered.
+// F-3: a piece, on plain values: fields read in turn, what is kept, what is answered.
 pub mod delivery;
 pub mod piece;
 pub mod turns;

@@ -1,4 +1,4 @@
-// A piece taken by the proxy's end: what its turns come to, and the undecided rest, or the destination, kept at the start of the hold.
+// F-3: a piece taken by the proxy's end: what its turns come to, and the undecided rest, or the destination, kept at the start of the hold.
 ghost use mathlib.Core.Path.{_≡_};
 ghost use mathlib.Core.List.{_++_};
 ghost use Prim.Native.Nat.{_+_, _-_, _≤_};

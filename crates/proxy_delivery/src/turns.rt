@@ -1,4 +1,4 @@
-// The turns of a delivery to the proxy's end: fields read from the held bytes and the piece, one after the other, with what is said written
+// F-3: the turns of a delivery to the proxy's end: fields read from the held bytes and the piece, one after the other, with what is said written
 // to the output.
 ghost use mathlib.Core.Path.{_≡_};
 ghost use mathlib.Core.Bool.{false};

@@ -1,3 +1,3 @@
-// What the end says: its own replies, the caller's answer, the end of stream.
+// F-3: what the end says: its own replies, the caller's answer, the end of stream.
 pub mod stages;
 pub mod write;

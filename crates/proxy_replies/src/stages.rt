@@ -1,4 +1,4 @@
-// What a stage of the proxy's end tells, and what the caller's answer and the end of the stream make of it.
+// F-3: what a stage of the proxy's end tells, and what the caller's answer and the end of the stream make of it.
 ghost use mathlib.Core.Path.{_≡_};
 ghost use Rattle.proxy_spec.specs.End as machine;
 ghost use Rattle.proxy_spec.specs.End.{endpointOf, stageAfter};

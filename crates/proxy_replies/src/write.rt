@@ -1,4 +1,4 @@
-// The replies of the proxy's end, written into a buffer at a place. Its callers see to it that there is room.
+// F-3: the replies of the proxy's end, written into a buffer at a place. Its callers see to it that there is room.
 ghost use mathlib.Core.Path.{_≡_};
 ghost use mathlib.Core.List.{[], _∷_};
 ghost use Prim.Native.Nat.{_+_, _≤_};

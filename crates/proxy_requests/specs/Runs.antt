@@ -1,4 +1,4 @@
--- A text that ends at a 00, as code over bytes finds it.
+-- F-3: a text that ends at a 00, as code over bytes finds it.
 use Prim.Native.Nat.{ℕ, zero, suc}
 use mathlib.Core.Bool.{cond}
 use mathlib.Core.List.{List, [], _∷_}

@@ -1,4 +1,4 @@
-// The fields of a client's requests, read from the held bytes and the piece where they stand.
+// F-3: the fields of a client's requests, read from the held bytes and the piece where they stand.
 ghost use mathlib.Core.Path.{_≡_};
 ghost use mathlib.Core.List.{_++_};
 ghost use mathlib.Core.Bool.{cond};

@@ -1,4 +1,4 @@
--- The proxy's end as the calls hold it, and the session of a handshake's side that it stands for.
+-- F-3: the proxy's end as the calls hold it, and the session of a handshake's side that it stands for.
 use Prim.Native.Nat.{ℕ}
 use mathlib.Core.Bool.{Bool, cond}
 use mathlib.Core.List.{List, _++_}

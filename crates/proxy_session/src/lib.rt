@@ -1,4 +1,4 @@
-// The proxy's end of a SOCKS handshake: a value that is set up, fed with a client's pieces, answered for by its caller, and ended.
+// F-3: the proxy's end of a SOCKS handshake: a value that is set up, fed with a client's pieces, answered for by its caller, and ended.
 ghost use mathlib.Core.Path.{_≡_};
 ghost use Prim.Native.Nat.{_≤_};
 ghost use lib.ListN.{length};

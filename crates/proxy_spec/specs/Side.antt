@@ -1,4 +1,4 @@
--- The proxy's end as a side of a handshake: its messages are the fields of a request, so that little is held. Written apart from the plain machine.
+-- F-3: the proxy's end as a side of a handshake: its messages are the fields of a request, so that little is held. Written apart from the plain machine.
 use Prim.Native.Nat.{ℕ, zero, suc, _+_, _-_}
 use mathlib.Core.Bool.{Bool, cond, _&&_, _||_}
 use mathlib.Core.List.{List, [], _∷_}

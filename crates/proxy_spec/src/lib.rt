@@ -1,4 +1,4 @@
-// The proxy's end: the plain data that its definitions and the code above share. There is no function.
+// F-3: the proxy's end: the plain data that its definitions and the code above share. There is no function.
 use protocol::SocksError;
 use protocol::Version;
 

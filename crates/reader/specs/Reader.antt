@@ -1,4 +1,4 @@
--- Bytes taken at a place of a list, and the place behind them. Where they have not all come, the place stays.
+-- 01, "a small reader over the unread bytes": bytes taken at a place of a list, and the place behind them. Where they have not all come, the place stays.
 use Prim.Native.Nat.{ℕ, _+_}
 use mathlib.Core.Bool.{cond}
 use mathlib.Core.List.{List}

@@ -1,4 +1,4 @@
-// A reader over unread bytes that carries its place. The bytes stand in two slices, the held ones and then the piece, and are read where
+// 01, "a small reader over the unread bytes that carries its place". The bytes stand in two slices, the held ones and then the piece, and are read where
 // they stand. Its method leaves the work to a function on the slices and a place.
 ghost use mathlib.Core.Path.{_≡_};
 ghost use mathlib.Core.List.{_++_};

@@ -1,4 +1,4 @@
-// Replies read from the held bytes and the piece where they stand.
+// 01, "The call: reading replies": replies read from the held bytes and the piece where they stand.
 ghost use mathlib.Core.Path.{_≡_};
 ghost use mathlib.Core.List.{_++_};
 ghost use Prim.Native.Nat.{_+_, _≤_};

@@ -1,4 +1,4 @@
-// A route through one to eight proxies in a row: a value that is opened, fed with pieces, and ended.
+// F-5: a route through one to eight proxies in a row: a value that is opened, fed with pieces, and ended.
 pub use protocol::Version;
 pub use route_session::calls::Delivered;
 pub use route_session::calls::Ended;

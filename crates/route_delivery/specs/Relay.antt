@@ -1,4 +1,4 @@
--- A delivery to a route's proxies, each a session of its own: the one that is spoken to takes the piece; once it is open the next is begun, and takes what it left.
+-- F-5: a delivery to a route's proxies, each a session of its own: the one that is spoken to takes the piece; once it is open the next is begun, and takes what it left.
 use Prim.Native.Nat.{ℕ, zero, suc, _+_, _-_, _*_, _^_, _≤_, _<_}
 use mathlib.Core.Path.{_≡_}
 use mathlib.Core.Bool.{Bool, true, false, cond}

@@ -1,4 +1,4 @@
-// A delivery to the proxies of a route: what one leaves of a piece once it is open is handed to the next.
+// F-5: a delivery to the proxies of a route: what one leaves of a piece once it is open is handed to the next.
 ghost use Prim.Native.Nat.{_+_, _^_, _≤_, _<_};
 ghost use mathlib.Core.Path.{_≡_};
 ghost use lib.ListN.{length};

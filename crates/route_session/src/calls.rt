@@ -1,4 +1,4 @@
-// A route through one to eight proxies in a row: a value that is opened, fed with pieces, and ended.
+// F-5: a route through one to eight proxies in a row: a value that is opened, fed with pieces, and ended.
 ghost use mathlib.Core.Path.{_≡_};
 ghost use mathlib.Core.List.{List};
 ghost use Prim.Native.Nat.{ℕ, _-_, _<_};

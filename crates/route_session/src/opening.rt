@@ -1,4 +1,4 @@
-// Opening a route: all openings prepared, and the first proxy begun.
+// F-5: opening a route: all openings prepared, and the first proxy begun.
 ghost use mathlib.Core.Path.{_≡_};
 ghost use mathlib.Core.List.{map};
 ghost use Prim.Native.Nat.{_≤_, _<_};

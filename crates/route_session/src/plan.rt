@@ -1,4 +1,4 @@
-// The openings of a route prepared, the first proxy's first: what each keeps, in arrays, the last one's at their start.
+// F-5: the openings of a route prepared, the first proxy's first: what each keeps, in arrays, the last one's at their start.
 ghost use Prim.Native.Nat.{_*_, _≤_, _<_};
 ghost use mathlib.Core.Path.{_≡_};
 ghost use lib.ListN.{length, set, take, drop};

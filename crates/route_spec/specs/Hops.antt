@@ -1,4 +1,4 @@
--- The route as a side of a handshake: its openings' talks, each grafted in place of the end of the one before. Written apart from the plain machines.
+-- F-5: the route as a side of a handshake: its openings' talks, each grafted in place of the end of the one before. Written apart from the plain machines.
 use mathlib.Core.List.{List, [], _∷_}
 use Prim.Native.Nat.{ℕ}
 use Rattle.protocol.specs.declared.SocksError.{SocksError}

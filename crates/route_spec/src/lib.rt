@@ -1,1 +1,1 @@
-// Definitions of routes and their laws, in specs/ and proofs/. There is no function.
+// F-5: definitions of routes and their laws, in specs/ and proofs/. There is no function.

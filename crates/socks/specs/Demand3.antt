@@ -1,4 +1,4 @@
--- Demand 3, one claim over every list of deliveries to a tunnel: a field for each sentence.
+-- 01, "Tunnel": demand 3, one claim over every list of deliveries to a tunnel: a field for each sentence.
 use Prim.Native.Nat.{ℕ}
 use mathlib.Core.Path.{_≡_}
 use mathlib.Core.Logic.{_↔_}

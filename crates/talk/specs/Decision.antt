@@ -1,4 +1,4 @@
--- What a reader says of the bytes that are there.
+-- 01, "Tunnel": what a reader says of the bytes that are there.
 use Prim.Native.Nat.{ℕ}
 
 -- a message is good, or bad with an error

@@ -1,4 +1,4 @@
--- Two receivers that answer alike, and what their tunnels then have alike.
+-- 01, "Tunnel": two receivers that answer alike, and what their tunnels then have alike.
 use mathlib.Core.Path.{_≡_}
 use mathlib.Core.List.{List}
 use lib.ListN.{take}

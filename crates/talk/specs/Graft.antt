@@ -1,4 +1,4 @@
--- Talks in a row: one grafted in place of another's end.
+-- 01, "Tunnel": talks in a row: one grafted in place of another's end.
 use Prim.Native.Nat.{ℕ, _+_}
 use mathlib.Core.List.{List, _++_}
 use Rattle.talk.specs.Talk.{done, failed, Talk, stop, send, await, Session, waiting, ended, Fed}

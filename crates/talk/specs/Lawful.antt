@@ -1,4 +1,4 @@
--- What is asked of a side, and which bytes are just the messages of a talk.
+-- 01, "Tunnel": what is asked of a side, and which bytes are just the messages of a talk.
 use Prim.Native.Nat.{ℕ, suc, _≤_}
 use mathlib.Core.Path.{_≡_}
 use mathlib.Core.List.{List, [], _++_}

@@ -1,4 +1,4 @@
--- The law of pieces: what is claimed of every lawful side, each talk of its shape and every list of deliveries.
+-- 01, "Tunnel": the law of pieces: what is claimed of every lawful side, each talk of its shape and every list of deliveries.
 use Prim.Native.Nat.{ℕ}
 use mathlib.Core.Path.{_≡_}
 use mathlib.Core.Logic.{_↔_}

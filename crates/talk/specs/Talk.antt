@@ -1,4 +1,4 @@
--- One side of a handshake: what it does next, whatever it is told, and what bytes do to it.
+-- 01, "Tunnel": one side of a handshake: what it does next, whatever it is told, and what bytes do to it.
 use Prim.Native.Nat.{ℕ, _+_}
 use mathlib.Core.Bool.{Bool, true, false}
 use mathlib.Core.List.{List, [], _++_}

@@ -1,4 +1,4 @@
--- The two numbers of an outcome.
+-- 01, "Alongside": the two numbers of an outcome.
 use Prim.Native.Nat.{ℕ}
 use Rattle.protocol.specs.Numbers.{numbers}
 use Rattle.protocol.specs.declared.Outcome.{Outcome}

@@ -1,4 +1,4 @@
-// Delivers standard input to a plain v5 session for 192.0.2.7, port 443, and says what it sent, how it ended and what was left.
+// 01, "Alongside": delivers standard input to a plain v5 session for 192.0.2.7, port 443, and says what it sent, how it ended and what was left.
 use libc::STDOUT_FILENO;
 use lookup::none_found;
 use protocol::Outcome;

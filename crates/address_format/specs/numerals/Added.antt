@@ -1,4 +1,4 @@
--- Bytes put into an output from a place on.
+-- F-1: bytes put into an output from a place on.
 use Prim.Native.Nat.{ℕ, _+_}
 use mathlib.Core.Path.{_≡_}
 use mathlib.Core.List.{List, _++_}

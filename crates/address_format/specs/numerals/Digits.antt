@@ -1,4 +1,4 @@
--- Numbers as text.
+-- F-1, decimal and hexadecimal: numbers as text.
 use Prim.Native.Nat.{ℕ, zero, suc, _+_, _/_, _%_}
 use mathlib.Core.Bool.{cond}
 use mathlib.Core.List.{List, [], _∷_, _++_}

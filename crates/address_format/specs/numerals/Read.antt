@@ -1,4 +1,4 @@
--- A number of 1 to 18 digits.
+-- F-1, decimal and hexadecimal: a number of 1 to 18 digits.
 use Prim.Native.Nat.{ℕ, _+_, _*_, _-_}
 use mathlib.Core.Bool.{Bool, true, false, cond, _&&_}
 use mathlib.Core.List.{List, [], _∷_}

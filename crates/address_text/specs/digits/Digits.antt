@@ -1,4 +1,4 @@
--- A number or a group by one definition: whether its digits are decimal.
+-- 01, "Address text": a number or a group by one definition: whether its digits are decimal.
 use Prim.Native.Nat.{ℕ}
 use mathlib.Core.Bool.{Bool, true, false}
 use mathlib.Core.List.{List}

@@ -1,4 +1,4 @@
--- The rows of groups that an answer shows.
+-- 01, "Address text": the rows of groups that an answer shows.
 use Prim.Native.Nat.{ℕ, _≤_}
 use mathlib.Core.Path.{_≡_}
 use mathlib.Core.List.{List}

@@ -1,4 +1,4 @@
--- What a text stands for, as the definitions of protocol give it.
+-- 01, "Address text": what a text stands for, as the definitions of protocol give it.
 use Prim.Native.Nat.{ℕ}
 use mathlib.Core.Option.{Option, none}
 use mathlib.Core.List.{List, [], _++_}

@@ -1,4 +1,4 @@
--- What a text stands for that is read by the rule of IPv6 alone.
+-- 01, "Address text": what a text stands for that is read by the rule of IPv6 alone.
 use Prim.Native.Nat.{ℕ}
 use mathlib.Core.Option.{Option, none}
 use mathlib.Core.List.{List, []}

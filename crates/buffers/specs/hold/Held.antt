@@ -1,4 +1,4 @@
--- Where an address stands, and what is kept of it at the start of a hold.
+-- 01, "a fixed hold", and F-1: where an address stands, and what is kept of it at the start of a hold.
 use Prim.Native.Nat.{ℕ, _+_, _≤_}
 use mathlib.Core.Path.{_≡_}
 use mathlib.Core.List.{List, _++_}

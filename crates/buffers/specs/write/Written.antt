@@ -1,4 +1,4 @@
--- Bytes written over a buffer from a place.
+-- 01, "Delivery": bytes written over a buffer from a place.
 use Prim.Native.Nat.{ℕ, _+_, _≤_}
 use mathlib.Core.Path.{_≡_}
 use mathlib.Core.List.{List, _++_}

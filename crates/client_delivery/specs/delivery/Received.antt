@@ -1,4 +1,4 @@
--- What a delivery comes to before anything is sent: the ways it goes, each as it leaves the hold.
+-- 01, "Delivery", and F-2: what a delivery comes to before anything is sent: the ways it goes, each as it leaves the hold.
 use Prim.Native.Nat.{ℕ, _+_, _≤_, _<_}
 use mathlib.Core.Path.{_≡_}
 use mathlib.Core.Bool.{Bool, true, false}

@@ -1,4 +1,4 @@
--- The turns of a delivery: what a stage does with the unread bytes.
+-- 01, "Delivery", and F-2: the turns of a delivery: what a stage does with the unread bytes.
 use Prim.Native.Nat.{ℕ, _+_, _≤_, _<_}
 use mathlib.Core.Path.{_≡_}
 use mathlib.Core.Bool.{Bool, true, false}

@@ -1,4 +1,4 @@
--- The parts of preparing's checks that both versions share.
+-- 01, "Opening v5" and "Opening v4", and F-7: the parts of preparing's checks that both versions share.
 use Prim.Native.Nat.{ℕ}
 use mathlib.Core.Bool.{Bool, not, _&&_, _||_}
 use mathlib.Core.List.{List, []}

@@ -1,4 +1,4 @@
--- What an opening asks for: the host as it was read, or the record that was looked up for it.
+-- 01, "Opening v5" and "Opening v4", and F-7: what an opening asks for: the host as it was read, or the record that was looked up for it.
 use Prim.Native.Nat.{ℕ}
 use mathlib.Core.Bool.{Bool, cond, _&&_}
 use mathlib.Core.List.{List, []}

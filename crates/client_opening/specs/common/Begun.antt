@@ -1,4 +1,4 @@
--- What preparing comes to: its answer, its stage, and the requests that it keeps.
+-- 01, "Opening v5" and "Opening v4", and F-7: what preparing comes to: its answer, its stage, and the requests that it keeps.
 use Prim.Native.Nat.{ℕ}
 use mathlib.Core.Bool.{Bool, true, false}
 use mathlib.Core.List.{List}

@@ -1,4 +1,4 @@
--- Whether preparing reads its lookup's list.
+-- 01, "Lookup": whether preparing reads its lookup's list.
 use Prim.Native.Nat.{ℕ}
 use mathlib.Core.Bool.{Bool, _&&_, not}
 use mathlib.Core.List.{List}

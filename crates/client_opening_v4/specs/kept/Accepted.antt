@@ -1,4 +1,4 @@
--- What the checks of an accepted opening over v4 give the code that follows them.
+-- 01, "Opening v4" and "v4 request", and F-7: what the checks of an accepted opening over v4 give the code that follows them.
 use Prim.Native.Nat.{ℕ, _≤_}
 use mathlib.Core.Path.{_≡_}
 use mathlib.Core.List.{List}

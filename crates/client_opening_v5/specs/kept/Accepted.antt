@@ -1,4 +1,4 @@
--- What the checks of an accepted opening over v5 give the code that follows them, and the request that credentials make.
+-- 01, "Opening v5" and "v5 requests", and F-7: what the checks of an accepted opening over v5 give the code that follows them, and the request that credentials make.
 use Prim.Native.Nat.{ℕ, _≤_}
 use mathlib.Core.Path.{_≡_}
 use mathlib.Core.Bool.{Bool, true, false}

@@ -1,4 +1,4 @@
--- What a reply makes due, by the lengths of what is kept: the stage behind it, and how many bytes are sent.
+-- 01, "The call: the session": what a reply makes due, by the lengths of what is kept: the stage behind it, and how many bytes are sent.
 use Prim.Native.Nat.{ℕ, _+_}
 use mathlib.Core.Bool.{Bool, true, false, cond}
 use Rattle.protocol.specs.declared.AuthMethod.{AuthMethod}

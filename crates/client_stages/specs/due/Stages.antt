@@ -1,4 +1,4 @@
--- The stages of a session, and the session of a handshake's side that a stage stands for.
+-- 01, "The call: the session": the stages of a session, and the session of a handshake's side that a stage stands for.
 use Prim.Native.Nat.{ℕ}
 use mathlib.Core.List.{List, []}
 use Rattle.protocol.specs.declared.Reply.{Reply}

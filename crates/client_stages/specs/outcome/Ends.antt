@@ -1,4 +1,4 @@
--- What an end makes of a stage, and of how many bytes are held.
+-- 01, "End of stream": what an end makes of a stage, and of how many bytes are held.
 use Prim.Native.Nat.{ℕ}
 use mathlib.Core.Bool.{Bool, cond}
 use Rattle.protocol.specs.declared.SocksError.{SocksError}

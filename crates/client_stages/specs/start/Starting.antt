@@ -1,4 +1,4 @@
--- A start, by the lengths of what is kept and the output lent: what it answers, and how many bytes go.
+-- F-7: a start, by the lengths of what is kept and the output lent: what it answers, and how many bytes go.
 use Prim.Native.Nat.{ℕ, _+_}
 use mathlib.Core.Bool.{Bool, true, cond}
 use lib.Dec.{leb}

@@ -1,4 +1,4 @@
--- What follows a whole field, as the code has it: what is said and the stage behind it; and what a last field asks for.
+-- F-3: what follows a whole field, as the code has it: what is said and the stage behind it; and what a last field asks for.
 use Prim.Native.Nat.{ℕ, _-_}
 use mathlib.Core.Bool.{Bool, cond, _&&_}
 use mathlib.Core.List.{List}

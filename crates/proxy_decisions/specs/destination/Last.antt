@@ -1,4 +1,4 @@
--- A last field, whole, and a destination as a value that is handed out.
+-- F-3: a last field, whole, and a destination as a value that is handed out.
 use Prim.Native.Nat.{ℕ, min}
 use mathlib.Core.Path.{_≡_}
 use mathlib.Core.List.{List}

@@ -1,4 +1,4 @@
--- How many bytes an address field has, and the last fields in whose own bytes a destination stands.
+-- F-3: how many bytes an address field has, and the last fields in whose own bytes a destination stands.
 use Prim.Native.Nat.{ℕ, _+_}
 use mathlib.Core.Bool.{cond}
 use mathlib.Core.List.{List}

@@ -1,4 +1,4 @@
--- What a delivery comes to: the ways it goes, each as it leaves the hold and the output.
+-- F-3: what a delivery comes to: the ways it goes, each as it leaves the hold and the output.
 use Prim.Native.Nat.{ℕ, _≤_, _<_}
 use mathlib.Core.Path.{_≡_}
 use mathlib.Core.List.{List}

@@ -1,4 +1,4 @@
--- A piece taken: what it comes to, and what then stands at the hold's start and in the output.
+-- F-3: a piece taken: what it comes to, and what then stands at the hold's start and in the output.
 use Prim.Native.Nat.{ℕ, _+_, _-_, _≤_}
 use mathlib.Core.Path.{_≡_}
 use mathlib.Core.List.{List, [], _++_}

@@ -1,4 +1,4 @@
--- The turns of a delivery: what a field and those behind it do with the unread bytes.
+-- F-3: the turns of a delivery: what a field and those behind it do with the unread bytes.
 use Prim.Native.Nat.{ℕ, _-_, _≤_, _<_}
 use mathlib.Core.Path.{_≡_}
 use mathlib.Core.Bool.{true, false}

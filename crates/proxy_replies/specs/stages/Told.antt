@@ -1,4 +1,4 @@
--- What a stage tells, and what the end of the stream makes of it.
+-- F-3: what a stage tells, and what the end of the stream makes of it.
 use Prim.Native.Nat.{ℕ}
 use mathlib.Core.Bool.{Bool, true, false}
 use Rattle.protocol.specs.declared.Answer.the-variants.{Accepted, Refused}

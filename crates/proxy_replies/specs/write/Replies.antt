@@ -1,4 +1,4 @@
--- The bytes of a reply with an address: a record as a lookup gives it, and a port.
+-- F-3: the bytes of a reply with an address: a record as a lookup gives it, and a port.
 use Prim.Native.Nat.{ℕ}
 use mathlib.Core.List.{List, _∷_, _++_}
 use lib.ListN.{replicate}

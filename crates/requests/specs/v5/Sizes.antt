@@ -1,4 +1,4 @@
--- How many bytes an address field has, by its kind and length.
+-- 01, "v5 requests": how many bytes an address field has, by its kind and length.
 use Prim.Native.Nat.{ℕ, _+_}
 use Rattle.protocol.specs.declared.AddressKind.{AddressKind}
 use Rattle.protocol.specs.declared.AddressKind.the-variants.{Ipv4, Ipv6, Domain}

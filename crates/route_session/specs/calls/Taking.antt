@@ -1,4 +1,4 @@
--- A piece for a route by its parts: where it stands, the hold and the bytes of the requests apart.
+-- F-5: a piece for a route by its parts: where it stands, the hold and the bytes of the requests apart.
 use Prim.Native.Nat.{ℕ, _^_, _<_}
 use mathlib.Core.Path.{_≡_}
 use mathlib.Core.List.{List}

@@ -1,4 +1,4 @@
--- The first proxy begun: from where, and the route that is then returned.
+-- F-5: the first proxy begun: from where, and the route that is then returned.
 use Prim.Native.Nat.{ℕ}
 use mathlib.Core.List.{List}
 use lib.ListN.{replicate}

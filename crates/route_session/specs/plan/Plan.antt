@@ -1,4 +1,4 @@
--- A route as a caller gives it, and what preparing its openings comes to.
+-- F-5: a route as a caller gives it, and what preparing its openings comes to.
 use Prim.Native.Nat.{ℕ, _-_, _*_}
 use mathlib.Core.Path.{_≡_}
 use mathlib.Core.Bool.{Bool, true, false}
