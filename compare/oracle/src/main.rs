@@ -96,7 +96,9 @@ fn run(args: &[&str]) -> Result<bool, String> {
         ["load", count, seed] => Ok(timed_load(number(count)?, number(seed)? as u32, false)),
         ["load", count, seed, "bytes"] => Ok(timed_load(number(count)?, number(seed)? as u32, true)),
         ["load", count, seed, "list"] => Ok(said(load::list(number(count)?, number(seed)? as u32).join("\n"))),
-        ["speed", count, seed, rounds, ways @ ..] => speed::speed(number(count)?, number(seed)? as u32, number(rounds)?, ways),
+        ["speed", count, seed, rounds, ways @ ..] => {
+            speed::speed(number(count)?, number(seed)? as u32, number(rounds)?, ways)
+        }
         _ => Err(USAGE.into()),
     }
 }

@@ -31,7 +31,11 @@ impl Load {
 fn run(command: &mut Command) -> Result<(String, String), String> {
     let out = command.output().map_err(|e| format!("{command:?}: {e}"))?;
     let text = |bytes: Vec<u8>| String::from_utf8_lossy(&bytes).into_owned();
-    if out.status.success() { Ok((text(out.stdout), text(out.stderr))) } else { Err(format!("{command:?}: {}", text(out.stderr))) }
+    if out.status.success() {
+        Ok((text(out.stdout), text(out.stderr)))
+    } else {
+        Err(format!("{command:?}: {}", text(out.stderr)))
+    }
 }
 
 // Handshakes a second of the whole program, and its line.
@@ -44,7 +48,8 @@ fn timed(load: Load, side: &[&str], count: u64) -> Result<(f64, String), String>
 
 fn instructions(load: Load, side: &[&str], count: u64) -> Result<f64, String> {
     let valgrind = ["--tool=callgrind", "--callgrind-out-file=/dev/null"];
-    let (_, stderr) = run(Command::new("valgrind").args(valgrind).args(load.words(side, count)).env("GLIBC_TUNABLES", PLAIN))?;
+    let (_, stderr) =
+        run(Command::new("valgrind").args(valgrind).args(load.words(side, count)).env("GLIBC_TUNABLES", PLAIN))?;
     let found = stderr.lines().find_map(|line| line.split_once("Collected : ")?.1.trim().parse().ok());
     found.ok_or_else(|| format!("valgrind: {stderr}"))
 }
@@ -65,12 +70,15 @@ fn pair(load: Load, ours: &[&str], original: &[&str], count: u64, turn: bool) ->
     Ok(if turn { (b, a) } else { (a, b) })
 }
 
-// The ways are WAY=PROGRAM.
+// WAY=PROGRAM
+fn way(text: &str) -> Result<(&str, &str), String> {
+    text.split_once('=').ok_or(format!("no way: {text}"))
+}
+
 pub fn speed(count: u64, seed: u32, rounds: u64, ways: &[&str]) -> Result<bool, String> {
     let this = std::env::current_exe().map_err(|e| e.to_string())?;
     let original = [this.to_str().ok_or("no path")?, "load"];
-    let split = |way: &&'_ str| way.split_once('=').map(|(a, b)| (a.to_string(), b.to_string())).ok_or(format!("no way: {way}"));
-    let ways = ways.iter().map(split).collect::<Result<Vec<_>, _>>()?;
+    let ways = ways.iter().map(|text| way(text)).collect::<Result<Vec<_>, _>>()?;
     println!("load {count} {seed} {rounds}");
     for bytes in [false, true] {
         let load = Load { seed, bytes };
