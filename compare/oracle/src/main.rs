@@ -35,8 +35,9 @@ oracle secrets SEED COUNT REPLAY [--plant N] pairs of cases with other users and
 oracle list DIR                              writes the kept list and its answers, DIR/stdin and DIR/stdout
 oracle answers                               what the models say of the cases on standard input
 oracle call VERSION URI                      what the original's wrapper sends for a URI
-oracle load COUNT SEED [bytes]               the load of F-13 on the original
-oracle speed LOAD COUNT SEED                 and the program LOAD against it";
+oracle load COUNT SEED [bytes | list]        the load of F-13 on the original, in pieces as drawn or of one byte; a line
+                                             for each of its handshakes
+oracle speed COUNT SEED ROUNDS WAY=PROGRAM.. and each PROGRAM in turn with it";
 
 fn answers() -> Result<bool, String> {
     let mut input = vec![];
@@ -94,7 +95,10 @@ fn run(args: &[&str]) -> Result<bool, String> {
         ["call", version, uri] => call::call(version, uri).map(said),
         ["load", count, seed] => Ok(timed_load(number(count)?, number(seed)? as u32, false)),
         ["load", count, seed, "bytes"] => Ok(timed_load(number(count)?, number(seed)? as u32, true)),
-        ["speed", load, count, seed] => speed::speed(load, number(count)?, number(seed)? as u32),
+        ["load", count, seed, "list"] => Ok(said(load::list(number(count)?, number(seed)? as u32).join("\n"))),
+        ["speed", count, seed, rounds, ways @ ..] => {
+            speed::speed(number(count)?, number(seed)? as u32, number(rounds)?, ways)
+        }
         _ => Err(USAGE.into()),
     }
 }
