@@ -1,6 +1,6 @@
 -- F-13: what is drawn, by the load's definitions: a draw, what three of them choose, and the next piece.
 use Prim.Native.Nat.{ℕ, _+_, _%_, min}
-use mathlib.Core.Bool.{Bool, true, false}
+use mathlib.Core.Bool.{Bool, cond}
 use lib.Dec.{eqb}
 use Rattle.load_spec.specs.Load.{nextState, drawn, afterChoice, pieceLength}
 use Rattle.draws.specs.declared.Drawn.{Drawn}
@@ -19,7 +19,8 @@ choiceOf s =
       state = afterChoice s;
     }
 
--- of so many bytes left: none, with no draw, if there are none; a single byte, with no draw; or one draw, and the last takes what is left
+-- of so many bytes left: of none nothing, with no draw; a single byte, with no draw; or one draw, and the last takes what is left
 abbrev pub pieceOf : ℕ → ℕ → Bool → Piece
-pieceOf s left true = record { len = min 1 left; state = s }
-pieceOf s left false = drawnPiece left
+pieceOf s left single =
+    cond (eqb left 0) (record { len = 0; state = s })
+    (cond single (record { len = 1; state = s }) (record { len = min (pieceLength s) left; state = nextState s }))
