@@ -1,10 +1,15 @@
 // F-13: runs the handshakes of a stated load, and says how many opened and what they sent: `load COUNT SEED [bytes]`, with `bytes` in pieces of one byte.
 ghost use mathlib.Core.Path.{_≡_};
 ghost use mathlib.Core.Bool.{true};
-ghost use Prim.Native.Nat.{_≤_};
-ghost use lib.ListN.{length, take};
-ghost use Rattle.load.specs.Tally.{sumOf, added, isOpen, settled};
+ghost use mathlib.Core.Option.{some};
+ghost use Prim.Native.Nat.{ℕ, _≤_, _-_};
+ghost use lib.ListN.{length, take, drop, replicate};
 ghost use Rattle.client_session.specs.Session.{outcome};
+ghost use Rattle.client_session.specs.Calls.{StartResult, start};
+ghost use Rattle.endings_spec.specs.Streams.{streamOf};
+ghost use Rattle.load_spec.specs.Load.{opens};
+ghost use Rattle.load.specs.Tally.{sumOf, countsOf, withSent, added, isOpen, settled};
+ghost use Rattle.load.specs.Runs.{preparedBy, Fed, RanOne, RanLoad, allReplies, kindBy};
 ghost use Rattle.load.specs.Arguments.{bytesWord};
 use address_format::numerals::read;
 use address_format::numerals::read::Number;
@@ -85,6 +90,7 @@ fn settle(tally: Tally, session: Session) -> Tally
 // Delivers replies to a started session, piece by piece.
 fn feed(from: Tally, started: Started, replies: &[u8], single: bool, out: &mut [u8]) -> Tally
     requires { ⌜ (started .sent ≤ length (now out)) × (length (now out) ≤ 1024) ⌝ }
+    ensures { λ r. ⌜ Fed single (from .state) (started .session) (now (replies .entry)) (now (out .entry)) (withSent (countsOf from) (take (started .sent) (now (out .entry)))) r (now (out .exit)) ⌝ }
 {
     let mut session = started.session;
     let mut tally = add(from, out, started.sent, from.state);
@@ -102,13 +108,15 @@ fn feed(from: Tally, started: Started, replies: &[u8], single: bool, out: &mut [
 
 // An output that all handshakes share.
 fn output() -> [u8; 1024]
-    ensures { λ r. ⌜ 1024 ≡ length r ⌝ }
+    ensures { λ r. ⌜ r ≡ replicate 1024 0 ⌝ }
 {
     [0u8; 1024]
 }
 
 // A session prepared for a name, with a user and a password of one byte if there are credentials.
-fn prepare(v5: bool, credentials: bool, name: &[u8]) -> Prepared {
+fn prepare(v5: bool, credentials: bool, name: &[u8]) -> Prepared
+    ensures { λ r. ⌜ ((n : ℕ) → now (name .entry) ≡ replicate n 0x61 → r ≡ preparedBy v5 credentials n) ⌝ }
+{
     if !v5 {
         return socks::v4::prepare_chosen(false, name, Port::Given(443), none_found());
     }
@@ -122,6 +130,7 @@ fn prepare(v5: bool, credentials: bool, name: &[u8]) -> Prepared {
 
 fn begin(v5: bool, credentials: bool, name: &[u8], out: &mut [u8]) -> Started
     ensures { λ r. ⌜ r .sent ≤ length (now (out .exit)) ⌝ }
+    ensures { λ r. ⌜ ((n : ℕ) → now (name .entry) ≡ replicate n 0x61 → StartResult (start (preparedBy v5 credentials n .session) (now (out .entry))) r (now (out .exit))) ⌝ }
 {
     let prepared = prepare(v5, credentials, name);
     let session = prepared.session;
@@ -130,7 +139,7 @@ fn begin(v5: bool, credentials: bool, name: &[u8], out: &mut [u8]) -> Started
 
 // The replies that open a session: v5 with credentials, v5 without, v4.
 fn all_replies() -> [u8; 30]
-    ensures { λ r. ⌜ 30 ≡ length r ⌝ }
+    ensures { λ r. ⌜ r ≡ allReplies ⌝ }
 {
     [
         5,
@@ -174,6 +183,7 @@ struct Part {
 
 fn replies_for(v5: bool, credentials: bool) -> Part
     ensures { λ r. ⌜ (r .from ≤ r .to) × (r .to ≤ 30) ⌝ }
+    ensures { λ r. ⌜ streamOf (kindBy v5 credentials) opens ≡ some (take (r .to - r .from) (drop (r .from) allReplies)) ⌝ }
 {
     if !v5 {
         return Part { from: 22, to: 30 };
@@ -186,7 +196,8 @@ fn replies_for(v5: bool, credentials: bool) -> Part
 
 // The next handshake. Its name is the start of the longest, its replies are a part of all.
 fn run_one(tally: Tally, longest: &[u8], replies: &[u8], single: bool, out: &mut [u8]) -> Tally
-    requires { ⌜ (200 ≤ length (now longest)) × (30 ≤ length (now replies)) × (length (now out) ≤ 1024) ⌝ }
+    requires { ⌜ (now longest ≡ replicate 200 0x61) × (now replies ≡ allReplies) × (length (now out) ≤ 1024) ⌝ }
+    ensures { λ r. ⌜ RanOne single tally (now (out .entry)) r (now (out .exit)) ⌝ }
 {
     let choice = draws::choose(tally.state);
     let n = choice.name;
@@ -203,7 +214,9 @@ fn run_one(tally: Tally, longest: &[u8], replies: &[u8], single: bool, out: &mut
     feed(drawn, started, &replies[from..to], single, out)
 }
 
-fn run(count: u64, seed: u32, single: bool) -> Tally {
+fn run(count: u64, seed: u32, single: bool) -> Tally
+    ensures { λ r. ⌜ RanLoad single count seed r ⌝ }
+{
     let longest = [0x61u8; 200];
     let replies = all_replies();
     let mut out = output();
