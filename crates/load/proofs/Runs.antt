@@ -106,10 +106,10 @@ module _ (single : Bool) (replies : List ℕ) where
       let bs = drop at replies in
       let l : length bs ≡ length replies - at = length-drop at replies in
       let g : Fed single (p .state) (d .session) (drop (p .len) bs) out₁ (withSent (countsOf t) (take (d .sent) out₁)) r out′ =
-          rw (drop-drop (p .len) at replies) (subst (λ (v : Tally). Fed single (v .state) (d .session) (drop (at + p .len) replies) out₁ (countsOf v) r out′) u f) in
+      rw (drop-drop (p .len) at replies) (subst (λ (v : Tally). Fed single (v .state) (d .session) (drop (at + p .len) replies) out₁ (countsOf v) r out′) u f) in
       let k = add-sub at (p .len) in
       let w′ : DeliverResult (deliver session (take (p .len) bs) out) (take (p .len) bs) d out₁ =
-          subst (λ (n : ℕ). DeliverResult (deliver session (take n bs) out) (take n bs) d out₁) k w in
+      subst (λ (n : ℕ). DeliverResult (deliver session (take n bs) out) (take n bs) d out₁) k w in
       record {
         pieces = take (p .len) bs ∷ g .pieces;
         cut = pieces-more single (t .state) bs p (g .pieces) (r .state) (omega arith) (rw l e) (g .cut);

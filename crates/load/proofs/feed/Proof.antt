@@ -26,12 +26,15 @@ loop-less : tie.Need-loop-less Inv-loop μ-loop
 loop-less c = less-left _ _ _ (c .before .before .before .before .before .before .before .before .before .before .loop-test .taken) (c .before .before .before .before .before .before .before .before .before .next-piece .ensures .1 .1 (some-left _ _ (c .before .before .before .before .before .before .before .before .before .before .loop-test .taken)))
 
 loop-again : tie.Need-loop-again Inv-loop μ-loop
-loop-again c =
-    (search needs, search needs, λ r out′ f.
-    c .before .before .before .before .before .before .before .before .before .before .before .loop .inv .2 r out′
-    (fed-more _ _ (c .before .before .before .before .before .before .before .before .before .before .before .loop .session) (c .before .before .before .before .before .before .before .before .before .before .before .loop .out) (c .before .before .before .before .before .before .before .before .before .before .before .loop .tally) (c .before .before .before .before .before .before .before .before .before .before .before .loop .at) (c .before .before .before .before .before .before .before .before .before .next-piece .result)
-    (c .before .before .before .before .before .deliver .result) _ (c .add2 .result) r out′ (c .before .before .before .before .before .before .before .before .before .before .loop-test .taken) (c .before .before .before .before .before .before .before .before .before .next-piece .ensures .0)
-    (c .before .before .before .before .before .deliver .ensures) (c .add2 .ensures) f))
+loop-again c = (
+  search needs,
+  search needs,
+  λ r out′ f.
+      c .before .before .before .before .before .before .before .before .before .before .before .loop .inv .2 r out′
+      (fed-more _ _ (c .before .before .before .before .before .before .before .before .before .before .before .loop .session) (c .before .before .before .before .before .before .before .before .before .before .before .loop .out) (c .before .before .before .before .before .before .before .before .before .before .before .loop .tally) (c .before .before .before .before .before .before .before .before .before .before .before .loop .at) (c .before .before .before .before .before .before .before .before .before .next-piece .result)
+      (c .before .before .before .before .before .deliver .result) _ (c .add2 .result) r out′ (c .before .before .before .before .before .before .before .before .before .before .loop-test .taken) (c .before .before .before .before .before .before .before .before .before .next-piece .ensures .0)
+      (c .before .before .before .before .before .deliver .ensures) (c .add2 .ensures) f),
+)
 
 returns : tie.Need-returns Inv-loop μ-loop
 returns c =

@@ -30,10 +30,12 @@ run-one-requires : tie.Need-run-one-requires Inv-loop μ-loop
 run-one-requires c κs = (refl, c .before .before .before .before .before .before .all-replies .ensures, search needs)
 
 loop-again : tie.Need-loop-again Inv-loop μ-loop
-loop-again c =
-    (search needs, λ r f.
-    c .before .before .before .before .before .before .loop .inv .1 r
-    (on-next _ (c .before .before .before .before .before .before .loop .tally) (c .before .before .before .before .before .before .loop .left) (c .before .before .before .before .before .before .loop .out) (c .before .run-one .result) _ r (c .before .before .before .before .before .loop-test .taken) (c .before .run-one .ensures) f))
+loop-again c = (
+  search needs,
+  λ r f.
+      c .before .before .before .before .before .before .loop .inv .1 r
+      (on-next _ (c .before .before .before .before .before .before .loop .tally) (c .before .before .before .before .before .before .loop .left) (c .before .before .before .before .before .before .loop .out) (c .before .run-one .result) _ r (c .before .before .before .before .before .loop-test .taken) (c .before .run-one .ensures) f),
+)
 
 returns : tie.Need-returns Inv-loop μ-loop
 returns c =
