@@ -29,6 +29,9 @@ use Rattle.load.specs.Runs.{Ran, fedWith, preparedBy, ranOver, ranAll, P
 pub less-left : (n at len : ℕ) → at < n → 0 < len → n - (at + len) < n - at
 less-left n at len h k = omega arith
 
+pub less-rest : (left len : ℕ) → 0 < left → 0 < len → left - len < left
+less-rest left len h k = omega arith
+
 pub some-left : (n at : ℕ) → at < n → 0 < n - at
 some-left n at h = omega arith
 

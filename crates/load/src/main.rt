@@ -1,4 +1,5 @@
 // F-13: runs the handshakes of a stated load, and says how many opened and what they sent: `load COUNT SEED [bytes]`, with `bytes` in pieces of one byte.
+// `load COUNT SEED list` writes a line for each instead: version, credentials, the name's length, replies and pieces.
 ghost use mathlib.Core.Path.{_≡_};
 ghost use mathlib.Core.Bool.{true};
 ghost use mathlib.Core.Option.{some};
@@ -10,7 +11,8 @@ ghost use Rattle.endings_spec.specs.Streams.{streamOf};
 ghost use Rattle.load_spec.specs.Load.{opens};
 ghost use Rattle.load.specs.Tally.{sumOf, countsOf, withSent, added, isOpen, settled};
 ghost use Rattle.load.specs.Runs.{preparedBy, Fed, RanOne, RanLoad, allReplies, kindBy};
-ghost use Rattle.load.specs.Arguments.{bytesWord};
+ghost use Rattle.load.specs.Arguments.{bytesWord, listWord};
+use address_format::numerals::put_hex;
 use address_format::numerals::read;
 use address_format::numerals::read::Number;
 use libc::STDOUT_FILENO;
@@ -246,11 +248,25 @@ fn is_bytes(text: &[u8]) -> bool
     check::same(text, b"bytes")
 }
 
-// Whether the third argument is `bytes`.
-fn single_bytes() -> bool {
+fn is_list(text: &[u8]) -> bool
+    ensures { λ r. ⌜ (r ≡ true → now (text .entry) ≡ listWord) × (now (text .entry) ≡ listWord → r ≡ true) ⌝ }
+{
+    check::same(text, b"list")
+}
+
+// What the third argument asks for.
+struct Mode {
+    single: bool,
+    list: bool,
+}
+
+fn third_argument() -> Mode {
     let mut text = [0u8; 5];
     let n = os::arg(3, &mut text);
-    is_bytes(&text[..n])
+    Mode {
+        single: is_bytes(&text[..n]),
+        list: is_list(&text[..n]),
+    }
 }
 
 fn print(name: &[u8], value: u64) {
@@ -258,21 +274,86 @@ fn print(name: &[u8], value: u64) {
     io::print_decimal(STDOUT_FILENO, value);
 }
 
-fn main() {
-    let count = argument(1);
-    let seed = argument(2);
-    if !(count.ok && seed.ok) {
-        io::write_all(STDOUT_FILENO, b"usage: load COUNT SEED [bytes]\n");
+fn print_hex(s: &[u8])
+    requires { ⌜ length (now s) ≤ 30 ⌝ }
+{
+    let mut text = [0u8; 60];
+    let n = put_hex(s, &mut text, 0);
+    io::write_all(STDOUT_FILENO, &text[..n]);
+}
+
+// Version, credentials as used, and the name's length.
+fn print_choice(v5: bool, credentials: bool, name: usize) {
+    if !v5 {
+        print(b"4 0 ", name as u64);
         return;
     }
-    let tally = run(
-        count.value,
-        (seed.value % 4294967296) as u32,
-        single_bytes(),
-    );
-    print(b"handshakes ", count.value);
+    print(b"5 ", credentials as u64);
+    print(b" ", name as u64);
+}
+
+// The lengths of the pieces of so many bytes, split by commas; and the state behind them.
+fn print_pieces(from: u32, bytes: usize) -> u32 {
+    let first = draws::next_piece(from, bytes, false);
+    print(b" ", first.len as u64);
+    let mut state = first.state;
+    let mut left = bytes - first.len;
+    while left > 0 {
+        let piece = draws::next_piece(state, left, false);
+        print(b",", piece.len as u64);
+        state = piece.state;
+        left -= piece.len;
+    }
+    state
+}
+
+// A line for the next handshake.
+fn list_one(state: u32, replies: &[u8]) -> u32
+    requires { ⌜ 30 ≡ length (now replies) ⌝ }
+{
+    let choice = draws::choose(state);
+    print_choice(choice.v5, choice.credentials, choice.name);
+    let part = replies_for(choice.v5, choice.credentials);
+    let from = part.from;
+    let to = part.to;
+    io::write_all(STDOUT_FILENO, b" ");
+    print_hex(&replies[from..to]);
+    let next = print_pieces(choice.state, to - from);
+    io::write_all(STDOUT_FILENO, b"\n");
+    next
+}
+
+fn list(count: u64, seed: u32) {
+    let replies = all_replies();
+    let mut state = seed;
+    let mut left = count;
+    while left > 0 {
+        state = list_one(state, &replies);
+        left -= 1;
+    }
+}
+
+fn print_run(count: u64, seed: u32, single: bool) {
+    let tally = run(count, seed, single);
+    print(b"handshakes ", count);
     print(b" open ", tally.opened);
     print(b" sent ", tally.sent);
     print(b" sum ", tally.sum);
     io::write_all(STDOUT_FILENO, b"\n");
+}
+
+fn main() {
+    let count = argument(1);
+    let number = argument(2);
+    if !(count.ok && number.ok) {
+        io::write_all(STDOUT_FILENO, b"usage: load COUNT SEED [bytes|list]\n");
+        return;
+    }
+    let seed = (number.value % 4294967296) as u32;
+    let asked = third_argument();
+    if asked.list {
+        list(count.value, seed);
+        return;
+    }
+    print_run(count.value, seed, asked.single);
 }
