@@ -7,7 +7,6 @@ use lib.Dec.{eqb}
 use borrow.Author.Tests.{eq-eqb, ne-eqb}
 use Rattle.load_spec.specs.Load.{pieceLength}
 use Rattle.draws.specs.declared.Drawn.{Drawn}
-use Rattle.draws.specs.declared.Piece.{Piece}
 use Rattle.draws.specs.Draws.{drawOf, choiceOf, pieceOf}
 
 pub chosen : (s : ℕ) (a b c : Drawn) → a ≡ drawOf s → b ≡ drawOf (a .state) → c ≡ drawOf (b .state)

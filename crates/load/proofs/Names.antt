@@ -1,16 +1,16 @@
 -- F-13: a name of 1 to 200 bytes 61 is a name, and its openings are accepted.
-use Prim.Native.Nat.{ℕ, zero, suc, _≤_, _<_}
+use Prim.Native.Nat.{ℕ, zero, suc, _≤_}
 use native.Mathlib.Omega.{arith}
-use mathlib.Core.Path.{_≡_, refl, ap, sym, _∙_}
-use mathlib.Core.Bool.{Bool, true, false, cond, _&&_}
-use mathlib.Core.List.{List, [], _∷_}
+use mathlib.Core.Path.{_≡_, refl}
+use mathlib.Core.Bool.{Bool, true, false, cond}
+use mathlib.Core.List.{List, _∷_}
 use lib.ListN.{length, replicate, length-replicate}
 use lib.Dec.{ltb, eqb}
 use borrow.Author.Tests.{lt-ltb, le-ltb, ne-eqb}
 use Rattle.protocol.specs.declared.Answer.the-variants.{Accepted}
 use Rattle.protocol.specs.Host.{strip, allAllowed}
-use Rattle.protocol.specs.AddressReading.{Destination, domain, destinationOf, hexValue, digitsFrom, decimalGoes, hexGoes, numberOf, groupOf, markAt, dotted, ipv4Of, followsAt, row, rightOf, joinOf, wholeOf, startsGap, ipv6Of}
-use Rattle.protocol.specs.Opening.{check5, check4, isName}
+use Rattle.protocol.specs.AddressReading.{domain, destinationOf, hexValue, digitsFrom, decimalGoes, hexGoes, numberOf, groupOf, markAt, dotted, ipv4Of, followsAt, row, rightOf, joinOf, wholeOf, startsGap, ipv6Of}
+use Rattle.protocol.specs.Opening.{check5, check4}
 use Rattle.load_spec.specs.Load.{arguments5, arguments4}
 
 abbrev named : ℕ → List ℕ

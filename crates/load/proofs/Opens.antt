@@ -1,18 +1,17 @@
 -- F-13: every handshake of the load opens, whatever the seed, and uses all of its replies.
-use Prim.Native.Nat.{ℕ, suc, _+_, _%_, _≤_, _<_, min}
+use Prim.Native.Nat.{ℕ, _+_, _%_, _≤_}
 use native.Mathlib.Omega.{arith}
 use mathlib.Core.Path.{_≡_, refl, ap, sym, subst, _∙_}
 use mathlib.Core.Logic.{_⊎_, inl, inr}
-use mathlib.Core.Bool.{Bool, true, false, cond}
-use mathlib.Core.List.{List, [], _∷_, _++_, append-nil, List·Memᴰ, List·Memᴰ·not-nil, List·Memᴰ·cases-cons}
-use lib.ListN.{length, take, drop, length-take, length-append}
+use mathlib.Core.Bool.{Bool, true, false}
+use mathlib.Core.List.{List, [], _++_, append-nil, List·Memᴰ, List·Memᴰ·not-nil, List·Memᴰ·cases-cons}
+use lib.ListN.{length, take, length-take, length-append}
 use borrow.Author.Tests.{le-leb}
-use Rattle.protocol.specs.declared.Answer.{Answer}
 use Rattle.protocol.specs.declared.Answer.the-variants.{Accepted}
 use Rattle.protocol.specs.declared.Outcome.{Outcome}
 use Rattle.protocol.specs.declared.Outcome.the-variants.{Waiting, Open, Failed}
 use Rattle.protocol.specs.Bytes.{Bytes, BytePieces}
-use Rattle.protocol.specs.Opening.{Opening, v5, v4, check5, check4, opening5, opening4, startRoom, deliveryRoom, Sixteen}
+use Rattle.protocol.specs.Opening.{Opening, v5, v4, opening5, opening4, startRoom, deliveryRoom}
 use Rattle.protocol.specs.Machine.{machine, used}
 use Rattle.protocol.proofs.Bytes.{bytes-left, bytes-right, bytes-part}
 use Rattle.protocol.proofs.Limits.{number-is}
@@ -20,20 +19,19 @@ use Rattle.protocol.proofs.Sequences.{open-one, settled-same}
 use Rattle.client_session.specs.declared.Prepared.{Prepared}
 use Rattle.client_session.specs.Session.{outcome}
 use Rattle.client_session.specs.Calls.{preparedBy, prepare5, prepare4, start}
-use Rattle.socks.specs.Demand3.{receiver, joinedOf, tunnelOf, Demand3, Tunnelled}
-use Rattle.socks.specs.Turns.{Asking}
+use Rattle.socks.specs.Demand3.{joinedOf, Tunnelled}
 use Rattle.socks.proofs.Openings.{demand3-v5, demand3-v4, asking-v5, asking-v4}
 use Rattle.socks.proofs.Refusals.{preparing5, preparing4}
 use Rattle.socks.proofs.Claims.{starts-0}
 use Rattle.endings_spec.specs.declared.OutcomeStatus.{OutcomeStatus}
 use Rattle.endings_spec.specs.Endings.{endingOf, Leads, Wanted}
 use Rattle.load_spec.specs.Load as load
-use Rattle.load_spec.specs.Load.{Handshake, arguments5, arguments4, openingOf, opens, Chosen, Cut, bytewise}
+use Rattle.load_spec.specs.Load.{Handshake, arguments5, arguments4, openingOf, opens, Chosen}
 use Rattle.load_spec.specs.Cutting.{whole}
 use Rattle.load_spec.proofs.Cutting.{cut-whole, bytewise-whole}
 use Rattle.load.specs.Runs as runs
 use Rattle.load.specs.Runs.{preparedFor, One}
-use Rattle.load.specs.Opens.{Lent, none, more, startedWith, tunnelFor, Opens, EveryOpens}
+use Rattle.load.specs.Opens.{Lent, none, more, startedWith, EveryOpens}
 use Rattle.load.proofs.Names.{accepted5, accepted4}
 use Rattle.talk.specs.Tunnel.{Delivery, joined}
 

@@ -3,26 +3,26 @@ use Prim.Native.Nat.{ℕ, zero, suc, _+_, _-_, _≤_, _<_, min}
 use native.Mathlib.Omega.{arith}
 use mathlib.Core.Path.{_≡_, refl, ap, sym, subst, _∙_}
 use mathlib.Core.Bool.{Bool, true, false, cond}
-use mathlib.Core.Option.{Option, some}
-use mathlib.Core.List.{List, [], _∷_, _++_}
+use mathlib.Core.Option.{some}
+use mathlib.Core.List.{List, [], _∷_}
 use lib.ListN.{length, take, drop, replicate, length-drop, length-replicate}
-use lib.Seq.{drop-drop, length-take-le}
-use lib.Dec.{leb, eqb}
+use lib.Seq.{drop-drop}
+use lib.Dec.{leb}
 use borrow.Author.Tests.{leb-true, leb-false, ne-eqb}
 use Rattle.client_session.specs.declared.Session.{Session}
 use Rattle.client_session.specs.declared.Started.{Started}
 use Rattle.client_session.specs.declared.Delivered.{Delivered}
 use Rattle.client_session.specs.Session.{outcome}
-use Rattle.client_session.specs.Calls.{Call, StartResult, DeliverResult, started, delivered, start, deliver}
+use Rattle.client_session.specs.Calls.{StartResult, DeliverResult, delivered, start, deliver}
 use Rattle.protocol.specs.Opening.{opening5, opening4}
 use Rattle.endings_spec.specs.Streams.{streamOf, streamFor}
 use Rattle.endings_spec.proofs.Streams.{stream-wanted}
-use Rattle.load_spec.specs.Load.{Handshake, openingOf, opens, nextState, pieceLength, afterChoice, Cut, none, last, more, bytewise, Chosen, Load, done, next}
+use Rattle.load_spec.specs.Load.{Handshake, openingOf, opens, nextState, pieceLength, Cut, none, last, more, bytewise, Chosen, Load, done, next}
 use Rattle.draws.specs.declared.Choice.{Choice}
 use Rattle.draws.specs.declared.Piece.{Piece}
 use Rattle.draws.specs.Draws.{choiceOf, pieceOf}
 use Rattle.load.specs.declared.Tally.{Tally}
-use Rattle.load.specs.Tally.{Counts, noCounts, withSent, withOutcome, countsOf, tallyOf, added, settled}
+use Rattle.load.specs.Tally.{Counts, noCounts, withSent, countsOf, tallyOf, added, settled}
 use Rattle.load.specs.Runs.{Ran, fedWith, preparedBy, ranOver, ranAll, Pieces, One, Fed, RanOne, RanOn, RanLoad, allReplies, kindBy}
 
 -- a piece leaves less

@@ -1,13 +1,13 @@
 -- F-13: bytes are cut in just one way, as the function cuts them; joined, the pieces are the bytes.
 use Prim.Native.Nat.{ℕ, zero, suc, _+_, _≤_, _<_}
 use native.Mathlib.Omega.{arith}
-use mathlib.Core.Path.{_≡_, refl, ap, sym, _∙_}
+use mathlib.Core.Path.{_≡_, refl, ap, _∙_}
 use mathlib.Core.Bool.{Bool, true, false, cond}
 use mathlib.Core.List.{List, [], _∷_, _++_, append-nil}
 use lib.ListN.{length, take, drop, length-drop, take-append-drop}
 use lib.Dec.{leb}
 use borrow.Author.Tests.{leb-true, leb-false, le-leb, lt-leb}
-use Rattle.load_spec.specs.Load.{drawn, nextState, pieceLength, Cut, none, last, more, bytewise}
+use Rattle.load_spec.specs.Load.{nextState, pieceLength, Cut, none, last, more, bytewise}
 use Rattle.load_spec.specs.Cutting.{Pieces, is, before, cutNow, cutIn, cutOf, whole}
 
 cut-now : (s n : ℕ) (bs : List ℕ) (c : Pieces) → length bs ≤ suc n → (length (drop (pieceLength s) bs) ≤ n → Cut (nextState s) (drop (pieceLength s) bs) (c .pieces) (c .state))

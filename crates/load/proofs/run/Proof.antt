@@ -1,8 +1,6 @@
 use borrow.Author.Needs.{needs}
 use lib.ListN.{length}
-use mathlib.Core.Path.{_≡_, refl, _∙_}
-use mathlib.Core.List.{List}
-use Prim.Native.Nat.{ℕ}
+use mathlib.Core.Path.{_≡_, refl}
 use Rattle.load.specs.declared.Tally.{Tally}
 use Rattle.load.specs.Runs.{RanOn}
 use Rattle.load.proofs.Runs.{on-end, on-next, output-long, loaded}
