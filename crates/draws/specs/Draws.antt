@@ -1,26 +1,26 @@
--- F-13: the load: a 32-bit state from a seed; a draw replaces it and yields its top 16 bits.
-use Prim.Native.Nat.{ℕ, _+_, _*_, _/_, _%_, _^_, min}
+-- F-13: what is drawn, by the load's definitions: a draw, what three of them choose, and the next piece.
+use Prim.Native.Nat.{ℕ, _+_, _%_, min}
 use mathlib.Core.Bool.{Bool, cond}
 use lib.Dec.{eqb}
+use Rattle.load_spec.specs.Load.{nextState, drawn, afterChoice, pieceLength}
 use Rattle.draws.specs.declared.Drawn.{Drawn}
 use Rattle.draws.specs.declared.Choice.{Choice}
 use Rattle.draws.specs.declared.Piece.{Piece}
 
-abbrev pub nextState : ℕ → ℕ
-nextState s = (s * 1664525 + 1013904223) % 2 ^ 32
+abbrev pub drawOf : ℕ → Drawn
+drawOf s = record { state = nextState s; value = drawn s }
 
-unfoldable pub drawOf : ℕ → Drawn
-drawOf s = record { state = nextState s; value = nextState s / 2 ^ 16 }
-
--- three draws: the version, 0 is v5; credentials, 0 is without; and the name's length
-unfoldable pub choiceOf : ℕ → Choice
+abbrev pub choiceOf : ℕ → Choice
 choiceOf s =
-    let a = drawOf s in
-    let b = drawOf (a .state) in
-    let c = drawOf (b .state) in
-    record { v5 = eqb (a .value % 2) 0; credentials = eqb (b .value % 2) 1; name = 1 + c .value % 200; state = c .state }
+    record {
+      v5 = eqb (drawn s % 2) 0;
+      credentials = eqb (drawn (nextState s) % 2) 1;
+      name = 1 + drawn (nextState (nextState s)) % 200;
+      state = afterChoice s;
+    }
 
--- a piece of what is left: a byte, with no draw; or one draw, and the last takes what is left
-unfoldable pub pieceOf : ℕ → ℕ → Bool → Piece
+-- of so many bytes left: of none nothing, with no draw; a single byte, with no draw; or one draw, and the last takes what is left
+abbrev pub pieceOf : ℕ → ℕ → Bool → Piece
 pieceOf s left single =
-    cond single (record { len = 1; state = s }) (record { len = min (1 + drawOf s .value % 40) left; state = drawOf s .state })
+    cond (eqb left 0) (record { len = 0; state = s })
+    (cond single (record { len = 1; state = s }) (record { len = min (pieceLength s) left; state = nextState s }))

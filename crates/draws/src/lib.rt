@@ -46,12 +46,15 @@ pub struct Piece {
     pub state: u32,
 }
 
-// The next of the pieces of which so many bytes are left.
+// The next of the pieces of which so many bytes are left. Of none there is a piece of no byte, and nothing is drawn.
 pub fn next_piece(state: u32, left: usize, single: bool) -> Piece
-    requires { ⌜ 0 < left ⌝ }
     ensures { λ r. ⌜ r ≡ pieceOf state left single ⌝ }
-    ensures { λ r. ⌜ (0 < r .len) × (r .len ≤ left) ⌝ }
+    ensures { λ r. ⌜ r .len ≤ left ⌝ }
+    ensures { λ r. ⌜ (0 < left → 0 < r .len) ⌝ }
 {
+    if left == 0 {
+        return Piece { len: 0, state };
+    }
     if single {
         return Piece { len: 1, state };
     }

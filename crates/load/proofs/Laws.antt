@@ -1,4 +1,4 @@
--- Sums byte by byte, and what is added where nothing was sent.
+-- F-13: sums byte by byte, and what is added where nothing was sent.
 use Prim.Native.Nat.{ℕ, _+_, _<_, _%_, _^_}
 use native.Mathlib.Omega.{arith}
 use native.Mathlib.Numerals.{add-one}

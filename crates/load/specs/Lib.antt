@@ -1,2 +1,4 @@
 pub mod Tally
+pub mod Runs
+pub mod Opens
 pub mod Arguments

@@ -1,11 +1,18 @@
 // F-13: runs the handshakes of a stated load, and says how many opened and what they sent: `load COUNT SEED [bytes]`, with `bytes` in pieces of one byte.
+// `load COUNT SEED list` writes a line for each instead: version, credentials, the name's length, replies and pieces.
 ghost use mathlib.Core.Path.{_≡_};
 ghost use mathlib.Core.Bool.{true};
-ghost use Prim.Native.Nat.{_≤_};
-ghost use lib.ListN.{length, take};
-ghost use Rattle.load.specs.Tally.{sumOf, added, isOpen, settled};
+ghost use mathlib.Core.Option.{some};
+ghost use Prim.Native.Nat.{ℕ, _≤_, _-_};
+ghost use lib.ListN.{length, take, drop, replicate};
 ghost use Rattle.client_session.specs.Session.{outcome};
-ghost use Rattle.load.specs.Arguments.{bytesWord};
+ghost use Rattle.client_session.specs.Calls.{StartResult, start};
+ghost use Rattle.endings_spec.specs.Streams.{streamOf};
+ghost use Rattle.load_spec.specs.Load.{opens};
+ghost use Rattle.load.specs.Tally.{sumOf, countsOf, withSent, added, isOpen, settled};
+ghost use Rattle.load.specs.Runs.{preparedBy, Fed, RanOne, RanLoad, allReplies, kindBy};
+ghost use Rattle.load.specs.Arguments.{bytesWord, listWord};
+use address_format::numerals::put_hex;
 use address_format::numerals::read;
 use address_format::numerals::read::Number;
 use libc::STDOUT_FILENO;
@@ -85,6 +92,7 @@ fn settle(tally: Tally, session: Session) -> Tally
 // Delivers replies to a started session, piece by piece.
 fn feed(from: Tally, started: Started, replies: &[u8], single: bool, out: &mut [u8]) -> Tally
     requires { ⌜ (started .sent ≤ length (now out)) × (length (now out) ≤ 1024) ⌝ }
+    ensures { λ r. ⌜ Fed single (from .state) (started .session) (now (replies .entry)) (now (out .entry)) (withSent (countsOf from) (take (started .sent) (now (out .entry)))) r (now (out .exit)) ⌝ }
 {
     let mut session = started.session;
     let mut tally = add(from, out, started.sent, from.state);
@@ -102,13 +110,15 @@ fn feed(from: Tally, started: Started, replies: &[u8], single: bool, out: &mut [
 
 // An output that all handshakes share.
 fn output() -> [u8; 1024]
-    ensures { λ r. ⌜ 1024 ≡ length r ⌝ }
+    ensures { λ r. ⌜ r ≡ replicate 1024 0 ⌝ }
 {
     [0u8; 1024]
 }
 
 // A session prepared for a name, with a user and a password of one byte if there are credentials.
-fn prepare(v5: bool, credentials: bool, name: &[u8]) -> Prepared {
+fn prepare(v5: bool, credentials: bool, name: &[u8]) -> Prepared
+    ensures { λ r. ⌜ ((n : ℕ) → now (name .entry) ≡ replicate n 0x61 → r ≡ preparedBy v5 credentials n) ⌝ }
+{
     if !v5 {
         return socks::v4::prepare_chosen(false, name, Port::Given(443), none_found());
     }
@@ -122,6 +132,7 @@ fn prepare(v5: bool, credentials: bool, name: &[u8]) -> Prepared {
 
 fn begin(v5: bool, credentials: bool, name: &[u8], out: &mut [u8]) -> Started
     ensures { λ r. ⌜ r .sent ≤ length (now (out .exit)) ⌝ }
+    ensures { λ r. ⌜ ((n : ℕ) → now (name .entry) ≡ replicate n 0x61 → StartResult (start (preparedBy v5 credentials n .session) (now (out .entry))) r (now (out .exit))) ⌝ }
 {
     let prepared = prepare(v5, credentials, name);
     let session = prepared.session;
@@ -130,7 +141,7 @@ fn begin(v5: bool, credentials: bool, name: &[u8], out: &mut [u8]) -> Started
 
 // The replies that open a session: v5 with credentials, v5 without, v4.
 fn all_replies() -> [u8; 30]
-    ensures { λ r. ⌜ 30 ≡ length r ⌝ }
+    ensures { λ r. ⌜ r ≡ allReplies ⌝ }
 {
     [
         5,
@@ -174,6 +185,7 @@ struct Part {
 
 fn replies_for(v5: bool, credentials: bool) -> Part
     ensures { λ r. ⌜ (r .from ≤ r .to) × (r .to ≤ 30) ⌝ }
+    ensures { λ r. ⌜ streamOf (kindBy v5 credentials) opens ≡ some (take (r .to - r .from) (drop (r .from) allReplies)) ⌝ }
 {
     if !v5 {
         return Part { from: 22, to: 30 };
@@ -186,7 +198,8 @@ fn replies_for(v5: bool, credentials: bool) -> Part
 
 // The next handshake. Its name is the start of the longest, its replies are a part of all.
 fn run_one(tally: Tally, longest: &[u8], replies: &[u8], single: bool, out: &mut [u8]) -> Tally
-    requires { ⌜ (200 ≤ length (now longest)) × (30 ≤ length (now replies)) × (length (now out) ≤ 1024) ⌝ }
+    requires { ⌜ (now longest ≡ replicate 200 0x61) × (now replies ≡ allReplies) × (length (now out) ≤ 1024) ⌝ }
+    ensures { λ r. ⌜ RanOne single tally (now (out .entry)) r (now (out .exit)) ⌝ }
 {
     let choice = draws::choose(tally.state);
     let n = choice.name;
@@ -203,7 +216,9 @@ fn run_one(tally: Tally, longest: &[u8], replies: &[u8], single: bool, out: &mut
     feed(drawn, started, &replies[from..to], single, out)
 }
 
-fn run(count: u64, seed: u32, single: bool) -> Tally {
+fn run(count: u64, seed: u32, single: bool) -> Tally
+    ensures { λ r. ⌜ RanLoad single count seed r ⌝ }
+{
     let longest = [0x61u8; 200];
     let replies = all_replies();
     let mut out = output();
@@ -233,11 +248,25 @@ fn is_bytes(text: &[u8]) -> bool
     check::same(text, b"bytes")
 }
 
-// Whether the third argument is `bytes`.
-fn single_bytes() -> bool {
+fn is_list(text: &[u8]) -> bool
+    ensures { λ r. ⌜ (r ≡ true → now (text .entry) ≡ listWord) × (now (text .entry) ≡ listWord → r ≡ true) ⌝ }
+{
+    check::same(text, b"list")
+}
+
+// What the third argument asks for.
+struct Mode {
+    single: bool,
+    list: bool,
+}
+
+fn third_argument() -> Mode {
     let mut text = [0u8; 5];
     let n = os::arg(3, &mut text);
-    is_bytes(&text[..n])
+    Mode {
+        single: is_bytes(&text[..n]),
+        list: is_list(&text[..n]),
+    }
 }
 
 fn print(name: &[u8], value: u64) {
@@ -245,21 +274,86 @@ fn print(name: &[u8], value: u64) {
     io::print_decimal(STDOUT_FILENO, value);
 }
 
-fn main() {
-    let count = argument(1);
-    let seed = argument(2);
-    if !(count.ok && seed.ok) {
-        io::write_all(STDOUT_FILENO, b"usage: load COUNT SEED [bytes]\n");
+fn print_hex(s: &[u8])
+    requires { ⌜ length (now s) ≤ 30 ⌝ }
+{
+    let mut text = [0u8; 60];
+    let n = put_hex(s, &mut text, 0);
+    io::write_all(STDOUT_FILENO, &text[..n]);
+}
+
+// Version, credentials as used, and the name's length.
+fn print_choice(v5: bool, credentials: bool, name: usize) {
+    if !v5 {
+        print(b"4 0 ", name as u64);
         return;
     }
-    let tally = run(
-        count.value,
-        (seed.value % 4294967296) as u32,
-        single_bytes(),
-    );
-    print(b"handshakes ", count.value);
+    print(b"5 ", credentials as u64);
+    print(b" ", name as u64);
+}
+
+// The lengths of the pieces of so many bytes, split by commas; and the state behind them.
+fn print_pieces(from: u32, bytes: usize) -> u32 {
+    let first = draws::next_piece(from, bytes, false);
+    print(b" ", first.len as u64);
+    let mut state = first.state;
+    let mut left = bytes - first.len;
+    while left > 0 {
+        let piece = draws::next_piece(state, left, false);
+        print(b",", piece.len as u64);
+        state = piece.state;
+        left -= piece.len;
+    }
+    state
+}
+
+// A line for the next handshake.
+fn list_one(state: u32, replies: &[u8]) -> u32
+    requires { ⌜ 30 ≡ length (now replies) ⌝ }
+{
+    let choice = draws::choose(state);
+    print_choice(choice.v5, choice.credentials, choice.name);
+    let part = replies_for(choice.v5, choice.credentials);
+    let from = part.from;
+    let to = part.to;
+    io::write_all(STDOUT_FILENO, b" ");
+    print_hex(&replies[from..to]);
+    let next = print_pieces(choice.state, to - from);
+    io::write_all(STDOUT_FILENO, b"\n");
+    next
+}
+
+fn list(count: u64, seed: u32) {
+    let replies = all_replies();
+    let mut state = seed;
+    let mut left = count;
+    while left > 0 {
+        state = list_one(state, &replies);
+        left -= 1;
+    }
+}
+
+fn print_run(count: u64, seed: u32, single: bool) {
+    let tally = run(count, seed, single);
+    print(b"handshakes ", count);
     print(b" open ", tally.opened);
     print(b" sent ", tally.sent);
     print(b" sum ", tally.sum);
     io::write_all(STDOUT_FILENO, b"\n");
+}
+
+fn main() {
+    let count = argument(1);
+    let number = argument(2);
+    if !(count.ok && number.ok) {
+        io::write_all(STDOUT_FILENO, b"usage: load COUNT SEED [bytes|list]\n");
+        return;
+    }
+    let seed = (number.value % 4294967296) as u32;
+    let asked = third_argument();
+    if asked.list {
+        list(count.value, seed);
+        return;
+    }
+    print_run(count.value, seed, asked.single);
 }

@@ -1,16 +1,11 @@
-use Rattle.draws.specs.Draws.{drawOf}
 use mathlib.Core.Path.{refl}
 use borrow.Author.Needs.{needs}
 use Rattle.draws.proofs.draw.Statement.{statement}
 use Rattle.draws.proofs.draw.Tie as tie
-
-returns : tie.Need-returns
-unfolding drawOf
-returns c = refl
 
 pub draw-spec : {M : Type 1} → statement M
 draw-spec = tie.close (tie.spec
     (λ c. search needs)
     (λ c. search needs)
     (λ c. search needs)
-    returns)
+    (λ c. refl))
