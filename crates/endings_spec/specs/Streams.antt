@@ -25,6 +25,13 @@ connectReply rep = 0x05 ∷ rep ∷ 0x00 ∷ 0x03 ∷ 0x01 ∷ 0x00 ∷ 0x00 ∷
 abbrev pub v4Reply : ℕ → List ℕ
 v4Reply cd = 0x00 ∷ cd ∷ 0x00 ∷ 0x00 ∷ 0x00 ∷ 0x00 ∷ 0x00 ∷ 0x00 ∷ []
 
+-- nothing, for end of stream; and the first of the malformed replies of two bytes
+abbrev pub noReply : List ℕ
+noReply = []
+
+abbrev pub malformedReply : List ℕ
+malformedReply = 0x00 ∷ 0x00 ∷ []
+
 -- to open
 abbrev pub openStream : Kind → List ℕ
 openStream WithoutCredentials = 0x05 ∷ 0x00 ∷ connectReply 0x00
@@ -40,22 +47,22 @@ if b bs later = cond b (some bs) later
 
 unfoldable pub streamOf : Kind → OutcomeStatus → Option (List ℕ)
 streamOf WithoutCredentials w =
-    if (isOf w 9 0 0) []
-    (if (isOf w 10 0 0) (0x00 ∷ 0x00 ∷ [])
+    if (isOf w 9 0 0) noReply
+    (if (isOf w 10 0 0) malformedReply
     (if (isOf w 12 0 0) (0x05 ∷ 0xFF ∷ [])
     (if (isOf w 13 0 0) (0x05 ∷ 0x02 ∷ [])
     (if (isOf w 15 1 8) (0x05 ∷ 0x00 ∷ connectReply (w .status))
     (if (isOf w 0 0 0) (openStream WithoutCredentials) none)))))
 streamOf WithCredentials w =
-    if (isOf w 9 0 0) []
-    (if (isOf w 10 0 0) (0x00 ∷ 0x00 ∷ [])
+    if (isOf w 9 0 0) noReply
+    (if (isOf w 10 0 0) malformedReply
     (if (isOf w 12 0 0) (0x05 ∷ 0xFF ∷ [])
     (if (isOf w 13 0 0) (0x05 ∷ 0x00 ∷ [])
     (if (isOf w 14 0 0) (0x05 ∷ 0x02 ∷ 0x01 ∷ 0x01 ∷ [])
     (if (isOf w 15 1 8) (0x05 ∷ 0x02 ∷ 0x01 ∷ 0x00 ∷ connectReply (w .status))
     (if (isOf w 0 0 0) (openStream WithCredentials) none))))))
 streamOf OverV4 w =
-    if (isOf w 9 0 0) []
+    if (isOf w 9 0 0) noReply
     (if (isOf w 10 0 0) (v4Reply 0x00)
     (if (isOf w 15 91 93) (v4Reply (w .status))
     (if (isOf w 0 0 0) (openStream OverV4) none)))
