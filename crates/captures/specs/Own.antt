@@ -7,7 +7,7 @@ use Rattle.protocol.specs.declared.Answer as code
 use Rattle.protocol.specs.declared.Answer.the-variants.{Accepted, Refused}
 use Rattle.protocol.specs.declared.Outcome.the-variants.{Open}
 use Rattle.protocol.specs.declared.SocksError.{SocksError}
-use Rattle.protocol.specs.Bytes.{BytePieces}
+use Rattle.protocol.specs.Bytes.{Bytes, BytePieces}
 use Rattle.protocol.specs.Opening.{V5, V4, Opening, opening5, opening4, deliveryRoom, Sixteen}
 use Rattle.client_session.specs.declared.Session.{Session}
 use Rattle.client_session.specs.declared.Prepared.{Prepared}
@@ -42,7 +42,7 @@ OwnAccepted p o check =
     → (es fs : List Entry) → Cut sent (sentIn (start (p .session) out)) es → Recorded (receiver (deliveryRoom o)) (start (p .session) out .session) ds fs
     → outcome (tunnelOf o (start (p .session) out .session) (sentIn (start (p .session) out)) ds .session) ≡ Open
     → tunnelOf o (start (p .session) out .session) (sentIn (start (p .session) out)) ds .rest ≡ []
-    → (c : List ℕ) → Row c (es ++ fs) → check c ≡ Accepted
+    → (c : List ℕ) → Bytes c → Row c (es ++ fs) → check c ≡ Accepted
 
 abbrev pub Own5 : Type 0
 Own5 = (a : V5) → Sixteen (a .records) → OwnAccepted (prepare5 a) (opening5 a) (check5 a)

@@ -1,6 +1,7 @@
 -- F-10: a capture is a row of entries; which an opening accepts, and which two are alike.
 use Prim.Native.Nat.{ℕ, _+_, _≤_, _<_}
 use mathlib.Core.Path.{_≡_}
+use mathlib.Core.Logic.{_⊎_}
 use mathlib.Core.List.{List, [], _∷_, _++_}
 use lib.ListN.{length, take}
 use Rattle.protocol.specs.Bytes.{two}
@@ -43,6 +44,12 @@ pub data RunsPast : List ℕ → Type 0 where
   bytes-cut : (d : Direction) (n : ℕ) (bs : List ℕ) → n ≤ 32767 → length bs < n → RunsPast (header d n ++ bs)
   next : (d : Direction) (bs : List ℕ) {more : List ℕ} → length bs ≤ 32767 → RunsPast more → RunsPast (header d (length bs) ++ (bs ++ more))
 
+-- one reading: just one row and nothing past the end, or an entry that runs past it and no row
+abbrev pub OneReading : List ℕ → Type 0
+OneReading c =
+    ((es : List Entry) × Row c es × ((fs : List Entry) → Row c fs → fs ≡ es) × (RunsPast c → ⊥))
+    ⊎ (RunsPast c × ((es : List Entry) → Row c es → ⊥))
+
 -- ---- the bytes of a direction, joined
 
 abbrev pub if : Direction → Direction → List ℕ → List ℕ
@@ -60,7 +67,7 @@ joined d (e ∷ es) = if d (e .direction) (e .bytes) ++ joined d es
 -- a beginning of a capture, up to any of its bytes
 pub data Beginning : List Entry → List Entry → Type 0 where
   nothing : {es : List Entry} → Beginning [] es
-  part : (n : ℕ) (d : Direction) (bs : List ℕ) {es : List Entry} → Beginning (entry d (take n bs) ∷ []) (entry d bs ∷ es)
+  part : (n : ℕ) (e : Entry) {es : List Entry} → Beginning (entry (e .direction) (take n (e .bytes)) ∷ []) (e ∷ es)
   next : (e : Entry) {b es : List Entry} → Beginning b es → Beginning (e ∷ b) (e ∷ es)
 
 pub record Accepted (o : Opening) (es : List Entry) : Type 0 where

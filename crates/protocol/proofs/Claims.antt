@@ -25,11 +25,11 @@ answers-one (suc k) m cs a b = let l : 0 < suc k = omega arith in sym (b .refuse
 
 -- ---- one list of conditions behind another
 
-none-then : (cs ds : List Condition) → None cs → None ds → None (cs ++ ds)
+pub none-then : (cs ds : List Condition) → None cs → None ds → None (cs ++ ds)
 none-then [] ds x y = y
 none-then (c ∷ cs) ds x y = (x .0, none-then cs ds (x .1) y)
 
-none-both : (cs ds : List Condition) → None (cs ++ ds) → None cs × None ds
+pub none-both : (cs ds : List Condition) → None (cs ++ ds) → None cs × None ds
 none-both [] ds x = (tt, x)
 none-both (c ∷ cs) ds x = let y = none-both cs ds (x .1) in ((x .0, y .0), y .1)
 

@@ -72,7 +72,7 @@ first-waits (v5 (userPass u p) d port o) = refl
 first-waits (v4 d port) = refl
 
 -- a session that stands somewhere of this version
-stands-asks : (first next : ℕ) (k : client.Kept) (s : Session) (m : SideSession) → Stands next k s m → InTurn first next s
+pub stands-asks : (first next : ℕ) (k : client.Kept) (s : Session) (m : SideSession) → Stands next k s m → InTurn first next s
 stands-asks first next k s m t =
     let w : client.Waits next (view s) = rw (t .seen) (t .waits) in
     let x : s .held ≡ length (holdsOf (view s)) = rw (t .seen) (t .exact) in
