@@ -1,0 +1,19 @@
+use borrow.Author.Needs.{needs}
+use Rattle.captures.proofs.walk.pass.Statement.{statement}
+use Rattle.captures.proofs.walk.pass.Tie as tie
+
+returns : tie.Need-returns
+returns c = ?
+
+returns-2 : tie.Need-returns-2
+returns-2 c = ?
+
+pub pass-spec : {M : Type 1} → statement M
+pass-spec =
+    tie.close (tie.spec
+    (λ c κs. search needs)
+    (λ c. search needs)
+    returns
+    (λ c κs. search needs)
+    (λ c. search needs)
+    returns-2)
