@@ -103,11 +103,13 @@ module _ (c : List ℕ) (at : ℕ) where
     where
       never : rowOf (drop at c) ≡ none → Entered c at es
       never e = let z : _≡_ {A = ℕ} 0 1 = cc in absurd (omega arith)
+
       all-or : at + 2 ≤ length c → (endAt c at ≤ length c) ⊎ (length c < endAt c at) → Entered c at es
       all-or h (inl l) =
           let b = behind-ahead (entryAt c at) (rowOf (drop (endAt c at) c)) es (sym (row-next h l) ∙ q) in
           record { two = h; within = l; rest = b .0; is-row = b .1; are = b .2 }
       all-or h (inr l) = never (row-past h l)
+
       two-or : (at + 2 ≤ length c) ⊎ (length c < at + 2) → Entered c at es
       two-or (inl h) = all-or h (at-most (endAt c at) (length c))
       two-or (inr h) = never (row-short p (omega arith))
