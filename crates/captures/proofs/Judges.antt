@@ -76,9 +76,10 @@ module _ (o : Opening) (limits : Limits o) where
   two-alike c c′ _ _ (is-row {es = es} r) (is-row {es = fs} s) y = go (held (preparedFor o) es) (accepts c es r y)
     where
       go : (h : Bool) → h ≡ true ↔ AcceptedCapture o c → cond h (record { answer = Accepted; alike = alike es fs }) (calls.refused CaptureNotAccepted) .alike ≡ true ↔ (None (twoCaptures o c c′) × AlikeCaptures c c′)
-      go true (p, q) =
-          (λ e. ((never-both r, (never-both s, (λ f. f (p refl), tt))), (es, fs, r, s, alike-just es fs .0 e)),
-          λ (n, (gs, hs, x, z, a)). alike-just es fs .1 (rw (one-row r x, one-row s z) a))
+      go true (p, q) = (
+        λ e. ((never-both r, (never-both s, (λ f. f (p refl), tt))), (es, fs, r, s, alike-just es fs .0 e)),
+        λ (n, (gs, hs, x, z, a)). alike-just es fs .1 (rw (one-row r x, one-row s z) a),
+      )
       go false (p, q) = (λ e. absurd (false≢true e), λ (n, a). absurd (n .1 .1 .0 (λ b. false≢true (q b))))
 
 -- ---- behind preparing

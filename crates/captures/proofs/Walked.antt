@@ -147,9 +147,10 @@ module _ (o : Opening) where
             let h = within-part bs due n (b .within) e in
             let i = ih got s due (n + length bs) (record { stands = b .stands; owes = b .owes; within = h; reads = b .reads }) in
             (λ w. left-sent o got bs n es (rw (← b .owes) h) (rw (← b .owes) e) (i .0 w), λ l. i .1 (sent-left o got bs n es l .behind))
-        go false q =
-            (λ w. absurd (false≢true w),
-            λ l. absurd (false≢true (sym q ∙ same-just bs (take (length bs) (drop n due)) .1 (rw (b .owes) (sent-left o got bs n es l .are)))))
+        go false q = (
+          λ w. absurd (false≢true w),
+          λ l. absurd (false≢true (sym q ∙ same-just bs (take (length bs) (drop n due)) .1 (rw (b .owes) (sent-left o got bs n es l .are)))),
+        )
 
     tells-received : (bs : List ℕ) (es : List Entry) → Tells es → (got : List ℕ) (s : Session) (due : List ℕ) (n : ℕ) → Behind got s due n
         → passed received bs s due n (walked es) ≡ true ↔ Left o got n (entry received bs ∷ es)
@@ -166,12 +167,13 @@ module _ (o : Opening) where
             let h : n ≤ length (machine o got .sent) = rw (← b .owes) (b .within) in
             let e : due ++ take (taking s bs .sent) (taking s bs .output) ≡ machine o (got ++ bs) .sent = rw (b .owes, t .sends) (sym (sent-grows o got bs)) in
             let i =
-                ih (got ++ bs) (taking s bs .session) _ n
-                (record { stands = t .stands; owes = e; within = rw e (omega (arith, sent-more o got bs)); reads = t .reads (b .reads) .0 (eqb-true (taking s bs .used) (length bs) q) }) in
+            ih (got ++ bs) (taking s bs .session) _ n
+            (record { stands = t .stands; owes = e; within = rw e (omega (arith, sent-more o got bs)); reads = t .reads (b .reads) .0 (eqb-true (taking s bs .used) (length bs) q) }) in
             (λ w. left-received o got bs n es h (i .0 w), λ l. i .1 (received-left o got bs n es l))
-        go false q =
-            (λ w. absurd (false≢true w),
-            λ l. absurd (eqb-false (taking s bs .used) (length bs) q (t .reads (b .reads) .1 (read-before o (got ++ bs) (joined received es) (received-left o got bs n es l .reads)))))
+        go false q = (
+          λ w. absurd (false≢true w),
+          λ l. absurd (eqb-false (taking s bs .used) (length bs) q (t .reads (b .reads) .1 (read-before o (got ++ bs) (joined received es) (received-left o got bs n es l .reads)))),
+        )
 
     tells-by : (d : Direction) (bs : List ℕ) (es : List Entry) → Tells es → (got : List ℕ) (s : Session) (due : List ℕ) (n : ℕ) → Behind got s due n
         → passed d bs s due n (walked es) ≡ true ↔ Left o got n (entry d bs ∷ es)

@@ -47,8 +47,8 @@ module _ (o : Opening) where
       go true e =
           let f = feed (side o) (begun o) a in
           let same : reached (feed (side o) (begun o) (a ++ b)) ≡ reached f =
-              ap reached (feed-append (side o) (client-lawful (kept o)) (begun o) (begun-shaped o) a b)
-              ∙ rw (onward-over (side o) (client-lawful (kept o)) (f .session) b e, add-zero) in
+          ap reached (feed-append (side o) (client-lawful (kept o)) (begun o) (begun-shaped o) a b)
+          ∙ rw (onward-over (side o) (client-lawful (kept o)) (f .session) b e, add-zero) in
           omega (arith, q, used-feed o a, used-feed o (a ++ b), same, feed-within (side o) (client-lawful (kept o)) (begun o) a, length-append a b)
 
   -- ---- just one reply sequence: open, with nothing unread

@@ -94,7 +94,7 @@ module _ (o : Opening) where
         record {
           opens = l .opens;
           reads = l .reads;
-          all = 
+          all =
               (λ i. e i ++ l .all i)
               ∙ (λ i. sym (part-due got (joined received es) n (length bs) h) i ++ sym (drop-drop (length bs) n (due (got ++ joined received es))) i)
               ∙ take-append-drop (length bs) (drop n (due (got ++ joined received es)));

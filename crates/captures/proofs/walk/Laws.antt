@@ -120,8 +120,8 @@ module _ (c : Course) (bs out : List ℕ) (w : Within c out) where
       let sent-is : r .sent ≡ k .sent = ap (λ (x : Delivered). x .sent) (d .returned) in
       let inside = d .inside in
       let behind : take (c .due + r .sent) (take (c .due) out ++ (ys ++ post)) ≡ take (c .due) out ++ take (k .sent) (k .output) =
-          ap (λ (m : ℕ). take (m + r .sent) (take (c .due) out ++ (ys ++ post))) (sym front) ∙ take-append-add (take (c .due) out) (ys ++ post) (r .sent)
-          ∙ ap (λ (x : List ℕ). take (c .due) out ++ x) (take-append-le (r .sent) ys post inside ∙ (λ i. take (sent-is i) (d .output i))) in
+      ap (λ (m : ℕ). take (m + r .sent) (take (c .due) out ++ (ys ++ post))) (sym front) ∙ take-append-add (take (c .due) out) (ys ++ post) (r .sent)
+      ∙ ap (λ (x : List ℕ). take (c .due) out ++ x) (take-append-le (r .sent) ys post inside ∙ (λ i. take (sent-is i) (d .output i))) in
       record {
         size = long;
         within = (omega (arith, w .0), omega (arith, long, inside, length-append (take (c .due) out) (ys ++ post), length-append ys post, front));

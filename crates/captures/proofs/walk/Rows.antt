@@ -5,22 +5,31 @@ use mathlib.Core.Path.{_≡_, refl, ap, sym, subst, _∙_}
 use mathlib.Core.Bool.{Bool, true, false, cond, _&&_}
 use mathlib.Core.Option.{Option, some}
 use mathlib.Core.List.{List, [], _∷_}
-use lib.ListN.{length, take, drop}
+use lib.ListN.{length, take, drop, replicate}
 use lib.Seq.{length-take-le}
 use lib.Dec.{leb, eqb}
 use Rattle.protocol.specs.Bytes.{byte}
 use Rattle.protocol.specs.Opening.{isNone}
+use Rattle.client_session.specs.declared.Session.{Session}
+use Rattle.client_session.specs.declared.Started.{Started}
 use Rattle.client_session.specs.Session.{outcome}
+use Rattle.client_session.specs.Calls.{start, StartResult}
 use Rattle.captures_spec.specs.Captures.{Direction, sent, received, Entry}
 use Rattle.captures_spec.specs.Reading.{directionBy, rowOf}
 use Rattle.captures.specs.declared.entries.Head.{Head}
 use Rattle.captures.specs.declared.walk.Course.{Course}
-use Rattle.captures.specs.Walk.{isOpen, passed, walked}
+use Rattle.captures.specs.Walk.{isOpen, passed, walked, held}
 use Rattle.captures.specs.Coded.{way, Within, Passes}
 use Rattle.captures.proofs.entries.Laws.{there-is, row-end, headAt, endAt, sizeAt, entryAt, Entered, row-some}
 
 abbrev pub left : List Entry → Course → List ℕ → Bool
 left es c due = walked es (c .session) (take (c .due) due) (c .sent)
+
+-- from what a start returned
+pub held-as : (s : Session) (es : List Entry) {r : Started} {due : List ℕ} {b : Bool} → StartResult (start s (replicate 1802 0)) r due
+    → b ≡ walked es (r .session) (take (r .sent) due) 0 → b ≡ held s es
+unfolding held
+held-as s es {r} {due} t q = q ∙ (λ i. walked es (t .returned i .session) (take (t .returned i .sent) (t .output i)) 0)
 
 -- at a place, of what the whole row tells
 pub record Walking (capture : List ℕ) (at : ℕ) (due : List ℕ) (c : Course) (all : List Entry → Bool) : Type 0 where
