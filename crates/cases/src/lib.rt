@@ -290,11 +290,27 @@ pub fn wanted_at(s: &[u8]) -> usize {
     NOWHERE
 }
 
+// The place behind captures, whose number stands first: one or two.
+fn captures_end(s: &[u8], at: usize) -> usize {
+    let count = byte_at(s, at);
+    let end = text_end(s, past(s, at, 1));
+    if count == 1 {
+        return end;
+    }
+    if count == 2 {
+        return text_end(s, end);
+    }
+    NOWHERE
+}
+
 // The place of a case's calls; of one that has none, its end.
 pub fn calls_at(s: &[u8]) -> usize {
     let kind = byte_at(s, 0);
     if kind == b'E' {
         return past(s, wanted_at(s), 4);
+    }
+    if kind == b'C' {
+        return captures_end(s, opening_end(s, 1));
     }
     if kind == b'S' {
         return opening_end(s, 1);

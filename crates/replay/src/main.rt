@@ -1,5 +1,6 @@
 // Runs the cases on standard input and writes a line for each (docs/CASES.md).
 mod proxies;
+mod recordings;
 mod routes;
 mod sessions;
 mod streams;
@@ -37,6 +38,9 @@ fn run_case(s: &[u8], writer: Writer, kept: &mut [u8], text: &mut [u8]) -> Write
     }
     if kind == b'E' {
         return streams::run(s, writer, kept, text);
+    }
+    if kind == b'C' {
+        return recordings::run(s, writer, text);
     }
     if kind == b'A' {
         return texts::put_address(text_at(s, 1), writer, text);
