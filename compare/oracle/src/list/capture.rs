@@ -371,8 +371,8 @@ fn headers(list: &mut Kept) {
 
 // ---- one byte
 
-// Changed in the first; over v5 with credentials also one less and one more there, else in the second. Addresses and
-// ports of replies may be any.
+// Changed in the first. One less and one more: with credentials in the first, else in the second, and changed there
+// too. Addresses and ports of replies may be any.
 fn bytes(list: &mut Kept) {
     for one in plain() {
         let entries = one.entries();
