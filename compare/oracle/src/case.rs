@@ -86,6 +86,8 @@ pub enum Kind {
     Route(Route, u16),
     End(SetUp),
     Ending(Row, Wanted),
+    // one or two of them
+    Captures(Opening, Vec<Vec<u8>>),
 }
 
 #[derive(Clone, PartialEq)]
@@ -230,6 +232,7 @@ impl Case {
             Kind::Route(..) => b'R',
             Kind::End(_) => b'P',
             Kind::Ending(..) => b'E',
+            Kind::Captures(..) => b'C',
         }
     }
 
@@ -251,6 +254,12 @@ impl Case {
             Kind::Ending(of, Wanted { number, status, lent }) => {
                 all.extend(of.parts());
                 all.extend([Byte(number, &[0]), Byte(status, &[0]), Number(lent, MOST_LENT)]);
+                return all;
+            }
+            Kind::Captures(opening, captures) => {
+                all.extend(opening.parts(true));
+                all.push(Fixed(vec![captures.len() as u8]));
+                all.extend(captures.iter_mut().map(|capture| Text(capture, 0)));
                 return all;
             }
         }
@@ -352,6 +361,11 @@ fn wanted(left: &mut &[u8]) -> Option<Wanted> {
     Some(Wanted { number: byte(left)?, status: byte(left)?, lent: number(left)? })
 }
 
+fn captures(left: &mut &[u8]) -> Option<Vec<Vec<u8>>> {
+    let n = byte(left).filter(|n| [1, 2].contains(n))?;
+    (0..n).map(|_| text(left)).collect()
+}
+
 // Of these letters.
 fn call(left: &mut &[u8], of: &[u8]) -> Option<Call> {
     let letter = byte(left).filter(|letter| of.contains(letter))?;
@@ -376,6 +390,7 @@ impl Case {
             b'R' => (Kind::Route(route(left)?, number(left)?), b"det"),
             b'P' => (Kind::End(SetUp { flags: byte(left)?, user: text(left)?, password: text(left)? }), b"dea"),
             b'E' => (Kind::Ending(row(left)?, wanted(left)?), b""),
+            b'C' => (Kind::Captures(opening(left)?, captures(left)?), b""),
             _ => return None,
         };
         let n = if letters.is_empty() { 0 } else { number(left)? };

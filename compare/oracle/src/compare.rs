@@ -4,7 +4,7 @@ use crate::draft::base;
 use crate::draw::Random;
 use crate::expect::{Teller, expect};
 use crate::generate;
-use crate::model::{self, Line, Outcome, ending};
+use crate::model::{self, Line, Outcome, capture, ending};
 use crate::shrink::{Differs, shrink};
 use std::collections::BTreeMap;
 use std::io::Write;
@@ -57,11 +57,15 @@ pub fn ask(program: &str, cases: &[Case]) -> Vec<String> {
 
 // ---- the expected side
 
-// The line with one byte changed, if it has such: the last that was sent, a stream's, or a text's answer.
+// The line with one byte changed, if it has such: the last that was sent, a stream's, or the answer of a text or of
+// captures.
 fn plant(case: &Case, line: &str) -> Option<String> {
     let mut fields: Vec<String> = line.split(' ').map(String::from).collect();
-    let last = matches!(case.kind, Kind::Text(..) | Kind::Ending(..));
-    let field = if last { fields.last_mut() } else { fields.get_mut(2) }?;
+    let field = match case.kind {
+        Kind::Text(..) | Kind::Ending(..) => fields.last_mut(),
+        Kind::Captures(..) => fields.first_mut(),
+        _ => fields.get_mut(2),
+    }?;
     let last = field.pop().filter(|c| *c != '-')?;
     field.push(if last == '0' { '1' } else { '0' });
     Some(fields.join(" "))
@@ -146,6 +150,9 @@ impl Figures {
         if let Kind::Ending(of, wanted) = &case.kind {
             return self.ending(of, wanted, &model::text(case));
         }
+        if let Kind::Captures(of, captures) = &case.kind {
+            return self.captures(of, captures, &model::text(case));
+        }
         let line = model::line(case);
         self.one("checks", line.check);
         let status = if line.status == 0 { String::new() } else { format!(" {}", line.status) };
@@ -188,6 +195,19 @@ impl Figures {
             Row::Route(route, _) => format!("{} proxies", route.proxies.len()),
         };
         self.one("endings of", of);
+    }
+
+    fn captures(&mut self, of: &Opening, captures: &[Vec<u8>], line: &str) {
+        let (answer, alike) = line.split_once(' ').unwrap_or_default();
+        self.one("answers to captures", answer);
+        self.one("captures alike", alike);
+        let entries = captures.iter().filter_map(|capture| capture::entries(capture));
+        self.most("entries at most", entries.map(|all| all.len()).max().unwrap_or(0));
+        if line.starts_with("0 ") {
+            let with = if of.version == 5 && of.has(CREDENTIALS) { " with credentials" } else { "" };
+            let ahead = if of.version == 5 && of.has(OPTIMISTIC) { " optimistically" } else { "" };
+            self.one("accepted over", format!("v{}{with}{ahead}", of.version));
+        }
     }
 
     pub fn text(&self) -> String {
@@ -292,7 +312,7 @@ fn damaged(program: &str, kind: u8, seed: u64, count: u64) -> usize {
             let at = if r.once_in(2) { r.below(bytes.len().min(60) + 1) } else { r.below(bytes.len() + 1) };
             let (before, behind) = bytes.split_at(at);
             let (there, behind) = behind.split_at(behind.len().min(6));
-            let other = r.damaged(there.to_vec(), b"\0\x01\x02\x04\x05\x06\x09sdebtawAHUSRPE");
+            let other = r.damaged(there.to_vec(), b"\0\x01\x02\x04\x05\x06\x09sdebtawAHUSRPEC");
             let bytes = match r.below(8) {
                 0 => before.to_vec(),
                 1 => [&bytes[..], &r.some_bytes(4)].concat(),
@@ -300,8 +320,8 @@ fn damaged(program: &str, kind: u8, seed: u64, count: u64) -> usize {
             };
             frame(&bytes[..bytes.len().min(MOST_BYTES)])
         })
-        // kinds that later requests bring
-        .filter(|frame| !matches!(frame.get(2), Some(b'L' | b'C')))
+        // a kind that a later request brings
+        .filter(|frame| frame.get(2) != Some(&b'L'))
         .collect();
     let read = frames.iter().filter(|frame| Case::read(&frame[2..]).is_some()).count();
     let mut lines = run(program, frames.concat()).into_iter();

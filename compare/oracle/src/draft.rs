@@ -141,3 +141,14 @@ pub fn base(version: u8) -> Draft<Opening> {
     let (host, none) = (b"a.example".to_vec(), Vec::new);
     Draft::new(Opening { version, flags: PORT, port: 443, host, user: none(), password: none(), records: vec![] })
 }
+
+// Of entries, each with whether it goes to the client; none above 32,767 bytes.
+pub fn capture<B: AsRef<[u8]>>(entries: &[(bool, B)]) -> Vec<u8> {
+    let mut all = vec![];
+    for (to_client, bytes) in entries {
+        let bytes = bytes.as_ref();
+        all.extend((u16::from(*to_client) << 15 | bytes.len() as u16).to_be_bytes());
+        all.extend(bytes);
+    }
+    all
+}

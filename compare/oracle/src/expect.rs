@@ -1,13 +1,14 @@
 //! The expected line of a case: the model's, held against the original where that can tell. The original runs one
 //! session, byte by byte too; it runs for each proxy of a route in turn, on what is left of the pieces behind the bytes
 //! that the one before used; and it is the client of a proxy's end, where the bytes that the end used are what it would
-//! send; it ends as is wanted where a stream for that is found. It tells sent bytes, outcome, status and used bytes; what else stands in a line is the model's alone.
+//! send; it ends as is wanted where a stream for that is found; it sends on each beginning of what a capture received.
+//! It tells sent bytes, outcome, status and used bytes; what else stands in a line is the model's alone.
 //! What leaves the comparison shows by what the original does. A session that it ends with `WouldOverflow` goes on here,
 //! as the RFCs have it: the model judges it. One whose v4 address announces a name is refused with 23.
 use crate::case::*;
 use crate::draw::Random;
 use crate::generate::session::{bound_replies, replies};
-use crate::model::{self, Line, Outcome, Step, ending};
+use crate::model::{self, Line, Outcome, Step, capture, ending};
 use crate::rust::{self, Told};
 use std::net::IpAddr;
 
@@ -275,6 +276,30 @@ fn ended(of: &Row, wanted: &Wanted, r: &mut Random) -> Result<Teller, String> {
     expect(&Case { kind, calls: calls.to_vec() }).map(|(_, teller)| teller)
 }
 
+// ---- captures
+
+// The first one in its own order: where sent entries end, no more is sent than a session sends on what was received so
+// far; at the end all of it is, the session is open and used all that was received.
+fn recorded(of: &Opening, captures: &[Vec<u8>]) -> Result<Teller, String> {
+    let told = capture::held(of, captures);
+    let Some(entries) = capture::entries(&captures[0]).filter(|_| matches!(told, Ok(_) | Err(26))) else {
+        return session(of, &[], false).map(|_| Teller::Model);
+    };
+    let (mut sent, mut received, mut ahead) = (vec![], vec![], false);
+    for (at, (to_client, bytes)) in entries.iter().enumerate() {
+        if *to_client { &mut received } else { &mut sent }.extend(*bytes);
+        if !to_client && entries.get(at + 1).is_none_or(|next| next.0) {
+            ahead |= !session(of, &[&received], false)?.sent.starts_with(&sent);
+        }
+    }
+    let came = session(of, &[&received], false)?;
+    let opens = came.outcome == Some(0) && came.used == received.len();
+    if told.is_ok() != (opens && !ahead && came.sent == sent) {
+        return Err(format!("in its order: opens {opens} ahead {ahead} sends {}", hex(&came.sent)));
+    }
+    Ok(came.teller)
+}
+
 // ---- all kinds
 
 // The line and who tells it, or what the original says against it. The texts' are the standard library's.
@@ -285,6 +310,9 @@ pub fn expect(case: &Case) -> Result<(String, Teller), String> {
     if let Kind::Ending(of, wanted) = &case.kind {
         let seed = case.bytes().iter().map(|b| u64::from(*b)).sum();
         return ended(of, wanted, &mut Random::new(seed, 0)).map(|teller| (model::text(case), teller));
+    }
+    if let Kind::Captures(of, captures) = &case.kind {
+        return recorded(of, captures).map(|teller| (model::text(case), teller));
     }
     let line = model::line(case);
     let teller = match &case.kind {

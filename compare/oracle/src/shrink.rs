@@ -1,5 +1,7 @@
 //! The smallest case, reached by cutting, that still shows a difference.
 use crate::case::*;
+use crate::draft::capture;
+use crate::model::capture::entries;
 
 // Only the first parts are tried one by one.
 const TRIED: usize = 200;
@@ -43,7 +45,7 @@ fn fewer<T: Clone>(list: &[T]) -> Vec<Vec<T>> {
 
 fn records(kind: &mut Kind) -> Option<&mut Vec<Record>> {
     match kind {
-        Kind::Session(of) | Kind::Ending(Row::Session(of), _) => Some(&mut of.records),
+        Kind::Session(of) | Kind::Ending(Row::Session(of), _) | Kind::Captures(of, _) => Some(&mut of.records),
         _ => None,
     }
 }
@@ -53,6 +55,10 @@ fn proxies(kind: &mut Kind) -> Option<&mut Vec<Opening>> {
         Kind::Route(of, _) | Kind::Ending(Row::Route(of, _), _) => Some(&mut of.proxies),
         _ => None,
     }
+}
+
+fn captures(kind: &mut Kind) -> Option<&mut Vec<Vec<u8>>> {
+    if let Kind::Captures(_, captures) = kind { Some(captures) } else { None }
 }
 
 // What a part may become: fewer bytes, or else plainer ones.
@@ -109,6 +115,12 @@ impl Smaller<'_> {
         }
         for list in proxies(&mut case.kind.clone()).map_or(vec![], |all| fewer(all)) {
             self.add(|c| *proxies(&mut c.kind).unwrap() = list);
+        }
+        for (i, one) in captures(&mut case.kind.clone()).map_or(vec![], |all| all.clone()).iter().enumerate() {
+            self.add(|c| captures(&mut c.kind).unwrap().truncate(i.max(1)));
+            for list in entries(one).filter(|all| all.len() < TRIED).map_or(vec![], |all| fewer(&all)) {
+                self.add(|c| captures(&mut c.kind).unwrap()[i] = capture(&list));
+            }
         }
         self.parts(true);
     }

@@ -125,3 +125,31 @@ pub fn frames() -> Vec<Vec<u8>> {
     let parts = [vec![vec![]], kinds(), versions(), families(), calls(), short(), left_over(), records()];
     parts.into_iter().flat_map(|part| [part, vec![good.clone()]].concat()).collect()
 }
+
+// Of captures: other numbers of them, each start of a case, bytes left over, other versions, families, numbers of
+// records and kinds; and a good frame.
+pub fn captures() -> Vec<Vec<u8>> {
+    let opening = Opening { records: vec![(6, [1; 16]), (4, [2; 16])], ..base(5).of };
+    let of = |captures: &[&[u8]]| {
+        let captures = captures.iter().map(|capture| capture.to_vec()).collect();
+        Case { kind: Kind::Captures(opening.clone(), captures), calls: vec![] }.bytes()
+    };
+    let texts: [&[u8]; 4] = [&[0, 1, 5], &[0x80, 1, 5], &[], &[]];
+    let number = of(&[]).len() - 1;
+    let mut all = vec![of(&[]), of(&texts[..3]), of(&texts), of(&[texts[2]; 255])];
+    for n in [1, 2] {
+        let bytes = of(&texts[..n]);
+        all.extend([0, 1, 2, 3, 4, 255].iter().filter(|m| **m != n as u8).map(|m| changed(&bytes, number, *m)));
+        let first = if n == 1 { 1 } else { number + 1 };
+        all.extend((first..bytes.len()).map(|n| bytes[..n].to_vec()));
+        all.extend([&[0][..], &[255], &[0, 0], b"e", &bytes].map(|more| [&bytes, more].concat()));
+        let family = number - 17;
+        all.extend(
+            [(1, 3), (1, 6), (family, 5), (family, 0), (family - 18, 0), (family - 18, 9)]
+                .map(|(place, byte)| changed(&bytes, place, byte)),
+        );
+        all.extend([b'c', b'S', b'E', b'P'].map(|kind| changed(&bytes, 0, kind)));
+    }
+    all.push(orders::good().bytes());
+    all
+}

@@ -16,7 +16,7 @@ const ASKING: usize = 150;
 const COUNTING: usize = 60;
 
 pub const OPENS4: [u8; 8] = [0, 90, 0, 80, 10, 0, 0, 1];
-const IPV4_REPLY: [u8; 10] = [5, 0, 0, 1, 192, 0, 2, 7, 31, 144];
+pub const IPV4_REPLY: [u8; 10] = [5, 0, 0, 1, 192, 0, 2, 7, 31, 144];
 pub const IPV6_REPLY: [u8; 22] = [5, 0, 0, 4, 32, 1, 13, 184, 0, 0, 0, 0, 0, 0, 0, 0, 0, 0, 0, 1, 0, 80];
 pub const SHORT_NAME: [u8; 8] = [5, 0, 0, 3, 1, b'x', 0, 80];
 

@@ -2,6 +2,7 @@
 use crate::case::*;
 use std::net::IpAddr;
 
+pub mod capture;
 pub mod ending;
 mod proxy;
 mod session;
@@ -102,7 +103,7 @@ fn run(side: &mut dyn Side, check: u8, calls: &[Call]) -> Line {
 // Of a case that has calls.
 pub fn line(case: &Case) -> Line {
     match &case.kind {
-        Kind::Text(..) | Kind::Ending(..) => panic!("a case without calls"),
+        Kind::Text(..) | Kind::Ending(..) | Kind::Captures(..) => panic!("a case without calls"),
         Kind::Session(opening) => run(&mut tunnel::session(opening), prepare(opening), &case.calls),
         Kind::Route(route, lent) => run(&mut tunnel::route(route, *lent), route_check(route, *lent), &case.calls),
         Kind::End(set_up) => run(&mut proxy::end(set_up), proxy::check(set_up), &case.calls),
@@ -165,6 +166,7 @@ pub fn text(case: &Case) -> String {
     match &case.kind {
         Kind::Text(letter, text) => text_line(*letter, text),
         Kind::Ending(of, wanted) => ending::text(of, wanted),
+        Kind::Captures(of, captures) => capture::text(of, captures),
         kind => line(case).text(kind),
     }
 }
