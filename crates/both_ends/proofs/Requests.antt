@@ -8,15 +8,16 @@ use lib.ListN.{length, take, drop, length-append}
 use lib.Seq.{take-at, drop-at, drop-drop, getD-drop, getD-at}
 use lib.Dec.{eqb, lit≤}
 use borrow.Author.Tests.{le-leb, eq-eqb}
+use Rattle.protocol.proofs.Bytes.{same-self}
 use Rattle.protocol.specs.declared.SocksError.the-variants.{Command, WrongCredentials}
 use Rattle.protocol.specs.declared.Version.the-variants.{V4, V5}
-use Rattle.protocol.specs.Bytes.{byte, two, twoOf}
+use Rattle.protocol.specs.Bytes.{byte, two, twoOf, same}
 use Rattle.protocol.specs.AddressReading.{Destination, ipv4, ipv6, domain}
 use Rattle.protocol.specs.Bound.{Endpoint, endpoint}
 use Rattle.protocol.specs.Requests.{Destination4, address, name, request, addressField, negotiationReq, authenticationReq, proxyReq}
 use Rattle.protocol.specs.Opening.{Opening, v5, v4, noAuth, userPass, announces}
 use Rattle.proxy_spec.specs.Reads.{Seen, short, wrong, unknown, whole, loginIn, connectIn, requestIn, textIn}
-use Rattle.proxy_spec.specs.End.{Setup, End, asks, fails, asked, has, chosen, methodReply, loginReply, ownReply5, offers, same, reads, connected, connecting, judged, signing, machine}
+use Rattle.proxy_spec.specs.End.{Setup, End, asks, fails, asked, has, chosen, methodReply, loginReply, ownReply5, offers, reads, connected, connecting, judged, signing, machine}
 use Rattle.proxy_spec.proofs.Words.{drop-same, greeting-whole, login-whole, connect-head, four-whole, six-whole, named-whole}
 use Rattle.proxy_spec.proofs.Texts.{text-of}
 use Rattle.proxy_spec.proofs.Requests.{request-user, behind-plain, behind-name, announces-not}
@@ -94,11 +95,6 @@ request-in (name s) port r (h, k, u) =
     ∙ behind-name q 9 (suc (length s)) (length s) refl (text-of 1014 s r k u) h ∙ rw (take-at s (0 ∷ r) (length s) refl, port-back port, length-append s (0 ∷ [])) (ap (λ (i : ℕ). whole i (1, endpoint (domain s) port)) (omega arith)))
 
 -- ---- the end's machine goes on
-
-same-self : (l : List ℕ) → same l l ≡ true
-unfolding same
-same-self [] = refl
-same-self (x ∷ l) = rw (eq-eqb x x refl, same-self l)
 
 pub greeted : (c : Setup) (b : Bool) (r : List ℕ) → c .authenticates ≡ b
     → let bs : List ℕ = 5 ∷ 1 ∷ chosen b ∷ r in machine c bs ≡ cond b (signing c (methodReply 0x02) 3 bs) (connecting (methodReply 0x00) 3 bs)

@@ -14,8 +14,9 @@ use Rattle.protocol.specs.Bound.{Endpoint}
 use Rattle.protocol.specs.Requests.{address, name, request, negotiationReq}
 use Rattle.protocol.specs.Opening.{Opening, v5, v4, noAuth, userPass, requests}
 use Rattle.protocol.specs.Machine as client
+use Rattle.protocol.specs.Bytes.{same}
 use Rattle.proxy_spec.specs.Reads.{Seen, short, wrong, unknown, whole, greetingIn, loginIn, connectIn, requestIn}
-use Rattle.proxy_spec.specs.End.{Setup, End, Standing, waits, asks, fails, asked, has, chosen, methodReply, loginReply, ownReply5, ownReply4, offers, same, reads, connected, connecting, judged, signing, greeted, requested, machine}
+use Rattle.proxy_spec.specs.End.{Setup, End, Standing, waits, asks, fails, asked, has, chosen, methodReply, loginReply, ownReply5, ownReply4, offers, reads, connected, connecting, judged, signing, greeted, requested, machine}
 use Rattle.talk.specs.Lawful.{Begins}
 use Rattle.both_ends.specs.Ends.{versionOf}
 

@@ -8,10 +8,11 @@ use mathlib.Core.List.{List, [], _∷_, _++_}
 use lib.ListN.{length, take, drop, replicate, length-append, length-take, length-drop, length-replicate}
 use lib.Dec.{leb, eqb, lit≤}
 use borrow.Author.Tests.{le-leb, eq-eqb, ne-eqb, eqb-true, eqb-false}
+use Rattle.protocol.proofs.Bytes.{same-just, both-true}
 use Rattle.protocol.specs.declared.Answer.the-variants.{Accepted}
 use Rattle.protocol.specs.declared.Outcome.{Outcome}
 use Rattle.protocol.specs.declared.Outcome.the-variants.{Waiting, Open, Failed}
-use Rattle.protocol.specs.Bytes.{Bytes}
+use Rattle.protocol.specs.Bytes.{Bytes, same}
 use Rattle.protocol.specs.Opening.{Opening, v5, v4, noAuth, userPass, startRoom, deliveryRoom, Limits}
 use Rattle.protocol.specs.Machine.{Machine, machine, used}
 use Rattle.protocol.specs.Client as client
@@ -34,15 +35,9 @@ use Rattle.talk.proofs.Feed.{feed-append, feed-within, feed-ready, feed-still, 
 use Rattle.talk.proofs.Deliveries.{lent}
 use Rattle.captures_spec.specs.Captures as captures
 use Rattle.captures_spec.specs.Captures.{Direction, sent, received, Entry, entry, joined}
-use Rattle.captures_spec.specs.Reading.{same}
 use Rattle.captures_spec.proofs.Due.{grown, sent-grows, sent-more, read-before}
 use Rattle.captures_spec.proofs.Entries.{Left, left-none, none-left, left-received, received-left, left-sent, sent-left, accepted-just}
-use Rattle.captures_spec.proofs.Alike.{same-just}
 use Rattle.captures.specs.Walk.{isOpen, taking, passed, walked, held}
-
-both-true : (a b : Bool) → (a && b) ≡ true → (a ≡ true) × (b ≡ true)
-both-true true b q = (refl, q)
-both-true false b q = absurd (false≢true q)
 
 module _ (o : Opening) where
   abbrev fed : List ℕ → FedOf (side o)

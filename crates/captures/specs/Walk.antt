@@ -4,13 +4,13 @@ use mathlib.Core.Bool.{Bool, true, false, cond, _&&_}
 use mathlib.Core.List.{List, [], _∷_, _++_}
 use lib.ListN.{length, take, drop, replicate}
 use lib.Dec.{leb, eqb}
+use Rattle.protocol.specs.Bytes.{same}
 use Rattle.protocol.specs.declared.Outcome.{Outcome}
 use Rattle.protocol.specs.declared.Outcome.the-variants.{Waiting, Open, Failed}
 use Rattle.client_session.specs.declared.Session.{Session}
 use Rattle.client_session.specs.Session.{outcome}
 use Rattle.client_session.specs.Calls.{Call, start, deliver}
 use Rattle.captures_spec.specs.Captures.{Direction, sent, received, Entry}
-use Rattle.captures_spec.specs.Reading.{same}
 
 abbrev pub isOpen : Outcome → Bool
 isOpen Waiting = false

@@ -5,9 +5,10 @@ ghost use mathlib.Core.List.{List, []};
 ghost use mathlib.Core.Option.{some};
 ghost use Prim.Native.Nat.{ℕ, _≤_, _<_};
 ghost use lib.ListN.{length};
+ghost use Rattle.protocol.specs.Bytes.{same};
 ghost use Rattle.protocol.specs.Opening.{isNone};
 ghost use Rattle.captures_spec.specs.Captures.{Entry, joined};
-ghost use Rattle.captures_spec.specs.Reading.{rowOf, same, alike};
+ghost use Rattle.captures_spec.specs.Reading.{rowOf, alike};
 ghost use Rattle.captures.specs.Coded.{way, Remains};
 use crate::entries::head_at;
 

@@ -8,38 +8,19 @@ use mathlib.Core.List.{List, [], _∷_, _++_}
 use lib.ListN.{length}
 use lib.Dec.{eqb}
 use borrow.Author.Tests.{eq-eqb, eqb-true}
-use Rattle.protocol.specs.Bytes.{Bytes}
-use Rattle.protocol.proofs.Bytes.{bytes-join, bytes-left, bytes-right}
+use Rattle.protocol.specs.Bytes.{Bytes, same}
+use Rattle.protocol.proofs.Bytes.{bytes-join, bytes-left, bytes-right, both-true, same-equal, same-just}
 use Rattle.captures_spec.specs.Captures as C
 use Rattle.captures_spec.specs.Captures.{Direction, sent, received, Entry, header, Row, if, joined, Alike}
-use Rattle.captures_spec.specs.Reading.{same, alike}
-
-both-true : (a b : Bool) → (a && b) ≡ true → (a ≡ true) × (b ≡ true)
-both-true true b q = (refl, q)
-both-true false b q = absurd (false≢true q)
-
-pub same-true : (a b : List ℕ) → same a b ≡ true → a ≡ b
-unfolding same
-same-true [] [] q = refl
-same-true [] (y ∷ ys) q = absurd (false≢true q)
-same-true (x ∷ xs) [] q = absurd (false≢true q)
-same-true (x ∷ xs) (y ∷ ys) q = let (p, r) = both-true (eqb x y) (same xs ys) q in λ i. eqb-true x y p i ∷ same-true xs ys r i
-
-pub same-itself : (a : List ℕ) → same a a ≡ true
-unfolding same
-same-itself [] = refl
-same-itself (x ∷ xs) = rw (eq-eqb x x refl) (same-itself xs)
-
-pub same-just : (a b : List ℕ) → same a b ≡ true ↔ (a ≡ b)
-same-just a b = (same-true a b, λ e. rw e (same-itself b))
+use Rattle.captures_spec.specs.Reading.{alike}
 
 pub alike-just : (es fs : List Entry) → alike es fs ≡ true ↔ Alike es fs
 unfolding alike
 alike-just es fs = (there, λ a. rw (same-just (joined sent es) (joined sent fs) .1 (a sent), same-just (joined received es) (joined received fs) .1 (a received)))
   where
     there : (same (joined sent es) (joined sent fs) && same (joined received es) (joined received fs)) ≡ true → Alike es fs
-    there q sent = same-true _ _ (both-true (same (joined sent es) (joined sent fs)) _ q .0)
-    there q received = same-true _ _ (both-true (same (joined sent es) (joined sent fs)) _ q .1)
+    there q sent = same-equal _ _ (both-true (same (joined sent es) (joined sent fs)) _ q .0)
+    there q received = same-equal _ _ (both-true (same (joined sent es) (joined sent fs)) _ q .1)
 
 if-bytes : (d e : Direction) (bs : List ℕ) → Bytes bs → Bytes (if d e bs)
 if-bytes sent sent bs y = y

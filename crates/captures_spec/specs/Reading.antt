@@ -1,10 +1,11 @@
 -- F-10 in handy forms, not to be believed: a capture read from its start.
 use Prim.Native.Nat.{ℕ, zero, suc, _+_, _*_, _%_}
-use mathlib.Core.Bool.{Bool, true, false, cond, _&&_}
+use mathlib.Core.Bool.{Bool, cond, _&&_}
 use mathlib.Core.Option.{Option, none, some}
 use mathlib.Core.List.{List, [], _∷_}
 use lib.ListN.{length, take, drop}
-use lib.Dec.{leb, eqb}
+use lib.Dec.{leb}
+use Rattle.protocol.specs.Bytes.{same}
 use Rattle.captures_spec.specs.Captures.{Direction, sent, received, Entry, entry, joined}
 
 -- what an entry's two bytes say
@@ -32,13 +33,6 @@ rowWithin (suc n) bs = first bs (rowWithin n)
 -- the row of entries that bytes are, or none: an entry runs past the end
 unfoldable pub rowOf : List ℕ → Option (List Entry)
 rowOf c = rowWithin (length c) c
-
--- two byte strings are the same
-unfoldable pub same : List ℕ → List ℕ → Bool
-same [] [] = true
-same [] (y ∷ ys) = false
-same (x ∷ xs) [] = false
-same (x ∷ xs) (y ∷ ys) = eqb x y && same xs ys
 
 unfoldable pub alike : List Entry → List Entry → Bool
 alike es fs = same (joined sent es) (joined sent fs) && same (joined received es) (joined received fs)

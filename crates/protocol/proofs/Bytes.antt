@@ -1,11 +1,13 @@
--- Which lists are byte strings.
+-- Which lists are byte strings, and which of them are the same.
 use Prim.Native.Nat.{ℕ, zero, suc, _≤_, zero-le}
 use mathlib.Core.Path.{_≡_, refl}
 use mathlib.Core.Logic.{_↔_, _⊎_, inl, inr}
-use mathlib.Core.Bool.{Bool, true, false, cond}
+use mathlib.Core.Bool.{Bool, true, false, cond, _&&_, false≢true}
 use mathlib.Core.List.{List, [], _∷_, _++_, List·Memᴰ, List·Memᴰ·head, List·Memᴰ·tail, List·Memᴰ·not-nil, List·Memᴰ·cases-cons}
 use lib.ListN.{take, drop, take-append-drop}
-use Rattle.protocol.specs.Bytes.{Bytes, BytePieces}
+use lib.Dec.{eqb}
+use borrow.Author.Tests.{eq-eqb, eqb-true}
+use Rattle.protocol.specs.Bytes.{Bytes, BytePieces, same}
 use Rattle.talk.specs.Tunnel.{Receiver, Delivery, lends, joined}
 
 member : (bs : List ℕ) → Bytes bs → (b : ℕ) → List·Memᴰ b bs → b ≤ 255
@@ -54,3 +56,24 @@ joined-bytes K (d ∷ ds) y = bytes-join (cond (lends K d) (d .piece) []) (joine
     go : (b : Bool) → Bytes (cond b (d .piece) [])
     go true = y d (List·Memᴰ·head refl)
     go false = λ i. zero-le
+
+-- ---- the same byte strings
+
+pub both-true : (a b : Bool) → (a && b) ≡ true → (a ≡ true) × (b ≡ true)
+both-true true b q = (refl, q)
+both-true false b q = absurd (false≢true q)
+
+pub same-equal : (xs ys : List ℕ) → same xs ys ≡ true → xs ≡ ys
+unfolding same
+same-equal [] [] q = refl
+same-equal [] (y ∷ ys) q = absurd (false≢true q)
+same-equal (x ∷ xs) [] q = absurd (false≢true q)
+same-equal (x ∷ xs) (y ∷ ys) q = let (p, r) = both-true (eqb x y) (same xs ys) q in λ i. eqb-true x y p i ∷ same-equal xs ys r i
+
+pub same-self : (xs : List ℕ) → same xs xs ≡ true
+unfolding same
+same-self [] = refl
+same-self (x ∷ xs) = rw (eq-eqb x x refl) (same-self xs)
+
+pub same-just : (xs ys : List ℕ) → same xs ys ≡ true ↔ (xs ≡ ys)
+same-just xs ys = (same-equal xs ys, λ e. rw e (same-self ys))

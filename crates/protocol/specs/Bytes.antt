@@ -1,7 +1,9 @@
 -- 01, bytes and fields: byte strings are lists of numbers.
 use Prim.Native.Nat.{ℕ, _+_, _*_, _-_, _≤_, _/_, _%_}
+use mathlib.Core.Bool.{Bool, true, false, _&&_}
 use mathlib.Core.List.{List, [], _∷_, _++_, List·Memᴰ}
 use lib.ListN.{length, replicate, getD}
+use lib.Dec.{eqb}
 use Rattle.talk.specs.Tunnel.{Delivery}
 
 -- each number is a byte's
@@ -27,3 +29,10 @@ twoOf bs = byte bs 0 * 256 + byte bs 1
 -- bytes at the start of an array of zeros
 abbrev pub padded : ℕ → List ℕ → List ℕ
 padded n bs = bs ++ replicate (n - length bs) 0
+
+-- two byte strings are the same
+unfoldable pub same : List ℕ → List ℕ → Bool
+same [] [] = true
+same [] (y ∷ ys) = false
+same (x ∷ xs) [] = false
+same (x ∷ xs) (y ∷ ys) = eqb x y && same xs ys

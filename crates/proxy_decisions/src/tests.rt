@@ -5,6 +5,7 @@ ghost use mathlib.Core.List.{_++_};
 ghost use Prim.Native.Nat.{_≤_};
 ghost use lib.ListN.{drop};
 ghost use Rattle.protocol.specs.Opening.{announces};
+ghost use Rattle.protocol.specs.Bytes as bytes;
 ghost use Rattle.proxy_spec.specs.End as end;
 ghost use Rattle.proxy_spec.specs.Side.{isKnown, portsOf, ipOf};
 use buffers::write::least;
@@ -29,7 +30,7 @@ pub fn offers(method: u8, held: &[u8], piece: &[u8]) -> bool
 // Whether the bytes behind the first ones are a text.
 pub fn same(held: &[u8], piece: &[u8], from: usize, text: &[u8]) -> bool
     requires { ⌜ from ≤ 2 ⌝ }
-    ensures { λ r. ⌜ r ≡ end.same (drop from (now (held .entry) ++ now (piece .entry))) (now (text .entry)) ⌝ }
+    ensures { λ r. ⌜ r ≡ bytes.same (drop from (now (held .entry) ++ now (piece .entry))) (now (text .entry)) ⌝ }
 {
     let n = text.len();
     let total = held.len() + piece.len();

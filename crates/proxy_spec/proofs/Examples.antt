@@ -1,8 +1,9 @@
 -- F-3's sentences, computed on bytes by the plain machine and by the side.
 use mathlib.Core.Path.{refl}
+use Rattle.protocol.specs.Bytes.{same}
 use Rattle.protocol.specs.Opening.{announces}
 use Rattle.proxy_spec.specs.Reads.{greetingIn, loginIn, targetIn, connectIn, textIn, requestIn}
-use Rattle.proxy_spec.specs.End.{offers, same, connecting, signing, machine, used}
+use Rattle.proxy_spec.specs.End.{offers, connecting, signing, machine, used}
 use Rattle.proxy_spec.specs.Side.{reads}
 use Rattle.proxy_spec.specs.Worked.{Worked}
 use Rattle.talk.specs.Talk.{feed}

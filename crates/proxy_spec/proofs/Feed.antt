@@ -12,7 +12,7 @@ use borrow.Author.Tests.{leb-true, leb-false, le-leb, lt-leb}
 use Rattle.protocol.specs.declared.SocksError.{SocksError}
 use Rattle.protocol.specs.declared.SocksError.the-variants.{Unsupported, Command, Malformed, WrongCredentials}
 use Rattle.protocol.specs.declared.Version.the-variants.{V4, V5}
-use Rattle.protocol.specs.Bytes.{byte, twoOf}
+use Rattle.protocol.specs.Bytes.{byte, twoOf, same}
 use Rattle.protocol.specs.AddressReading.{Destination, ipv4, ipv6, domain}
 use Rattle.protocol.specs.Bound.{Endpoint, endpoint}
 use Rattle.protocol.specs.Opening.{announces}
@@ -20,7 +20,7 @@ use Rattle.proxy_spec.specs.Reads.{Seen, short, wrong, unknown, whole, g
 use Rattle.proxy_spec.specs.declared.Ports.{Ports}
 use Rattle.proxy_spec.specs.declared.Field.{Field}
 use Rattle.proxy_spec.specs.declared.Field.the-variants.{First, Methods, User, Password, Head, Address, Request, UserId, Name}
-use Rattle.proxy_spec.specs.End.{Setup, Asked, asked, Standing, waits, asks, fails, End, has, chosen, methodReply, loginReply, ownReply5, ownReply4, offers, same, reads, connected, connecting, judged, signing, greeted, requested, machine, usedBy, used}
+use Rattle.proxy_spec.specs.End.{Setup, Asked, asked, Standing, waits, asks, fails, End, has, chosen, methodReply, loginReply, ownReply5, ownReply4, offers, reads, connected, connecting, judged, signing, greeted, requested, machine, usedBy, used}
 use Rattle.proxy_spec.specs.Side as side
 use Rattle.proxy_spec.specs.Side.{EndTalk, EndSession, refuses, unlessOther5, targetOf, atAddress, isKnown, atHead, atPassword, atUser, atMethods, portsOf, ipOf, unlessOther4, atName, atUserId, atRequest, atFirst, talkAt, server, standingOf, readText, readName}
 use Rattle.proxy_spec.proofs.Side.{TextLaw, text-law, server-lawful}

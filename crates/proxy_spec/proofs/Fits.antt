@@ -8,7 +8,7 @@ use mathlib.Core.List.{List, _++_}
 use lib.ListN.{length, take, drop, length-take, take-append-drop}
 use lib.Dec.{eqb, lit≤}
 use Rattle.protocol.specs.declared.SocksError.{SocksError}
-use Rattle.protocol.specs.Bytes.{Bytes, byte}
+use Rattle.protocol.specs.Bytes.{Bytes, byte, same}
 use Rattle.protocol.specs.AddressReading.{Destination, ipv4}
 use Rattle.protocol.specs.Bound.{bytesIn}
 use Rattle.protocol.specs.Opening.{announces}
@@ -17,7 +17,7 @@ use Rattle.proxy_spec.specs.declared.Ports.{Ports}
 use Rattle.proxy_spec.specs.declared.Field.{Field}
 use Rattle.proxy_spec.specs.declared.Field.the-variants.{First, Methods, User, Password, Head, Address, Request, UserId, Name}
 use Rattle.proxy_spec.specs.Reads.{Seen, short, wrong, unknown, whole, textIn}
-use Rattle.proxy_spec.specs.End.{Setup, Asked, chosen, offers, same}
+use Rattle.proxy_spec.specs.End.{Setup, Asked, chosen, offers}
 use Rattle.proxy_spec.specs.Side.{reads, readName, EndTalk, refuses, targetOf, atAddress, isKnown, atHead, atPassword, atUser, atMethods, portsOf, ipOf, unlessOther4, atName, atUserId, atRequest, talkAt, server}
 use Rattle.proxy_spec.proofs.Side.{server-lawful, held-most}
 use Rattle.proxy_spec.proofs.Texts.{text-is}

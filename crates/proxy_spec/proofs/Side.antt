@@ -10,11 +10,11 @@ use lib.Dec.{leb, eqb, lit≤}
 use borrow.Author.Tests.{leb-true, leb-false, le-leb, eqb-true, eq-eqb}
 use Rattle.protocol.specs.declared.SocksError.{SocksError}
 use Rattle.protocol.specs.declared.SocksError.the-variants.{Malformed}
-use Rattle.protocol.specs.Bytes.{Bytes, byte}
+use Rattle.protocol.specs.Bytes.{Bytes, byte, same}
 use Rattle.protocol.specs.AddressReading.{Destination}
 use Rattle.protocol.specs.Opening.{announces}
 use Rattle.proxy_spec.specs.Reads.{Seen, short, wrong, unknown, whole, textIn}
-use Rattle.proxy_spec.specs.End.{Setup, chosen, offers, same}
+use Rattle.proxy_spec.specs.End.{Setup, chosen, offers}
 use Rattle.proxy_spec.specs.declared.Ports.{Ports}
 use Rattle.proxy_spec.specs.declared.Field.{Field}
 use Rattle.proxy_spec.specs.declared.Field.the-variants.{First, Methods, User, Password, Head, Address, Request, UserId, Name}
@@ -412,31 +412,11 @@ most-1014 (Name p) = lit≤ tt
 pub held-most : (s : Field) (bs : List ℕ) → Bytes bs → reads s bs ≡ undecided → length bs ≤ 1014
 held-most s bs y q = le-trans (held-by s bs (y 0) (y 1) q) (most-1014 s)
 
--- ---- the tests that machine and side share: credentials are the same byte by byte, and a method is offered if it stands among those that are
-
-and-true : (a b : Bool) → (a && b) ≡ true → (a ≡ true) × (b ≡ true)
-and-true true b e = (refl, e)
-and-true false b e = absurd (true≢false (sym e))
+-- ---- a method is offered if it stands among those that are
 
 or-true : (a b : Bool) → b ≡ true → (a || b) ≡ true
 or-true true b e = refl
 or-true false b e = e
-
-pub same-equal : (xs ys : List ℕ) → same xs ys ≡ true → xs ≡ ys
-unfolding same
-same-equal [] [] e = refl
-same-equal [] (y ∷ ys) e = absurd (true≢false (sym e))
-same-equal (x ∷ xs) [] e = absurd (true≢false (sym e))
-same-equal (x ∷ xs) (y ∷ ys) e =
-    let b = and-true (eqb x y) (same xs ys) e in
-    let p : x ≡ y = eqb-true x y (b .0) in
-    let q : xs ≡ ys = same-equal xs ys (b .1) in
-    λ i. p i ∷ q i
-
-pub same-self : (xs : List ℕ) → same xs xs ≡ true
-unfolding same
-same-self [] = refl
-same-self (x ∷ xs) = rw (eq-eqb x x refl) (same-self xs)
 
 -- behind methods that are others, the one that is sought
 pub offers-there : (m : ℕ) (xs ys : List ℕ) → offers m (xs ++ (m ∷ ys)) ≡ true

@@ -9,7 +9,7 @@ use Rattle.protocol.specs.declared.SocksError.{SocksError}
 use Rattle.protocol.specs.declared.SocksError.the-variants.{Unsupported, Command, Malformed, WrongCredentials}
 use Rattle.protocol.specs.declared.Version.{Version}
 use Rattle.protocol.specs.declared.Version.the-variants.{V4, V5}
-use Rattle.protocol.specs.Bytes.{byte, two}
+use Rattle.protocol.specs.Bytes.{byte, two, same}
 use Rattle.protocol.specs.AddressReading.{Destination, ipv4, ipv6, domain}
 use Rattle.protocol.specs.Bound.{Endpoint, endpoint}
 use Rattle.protocol.specs.Opening.{recordFamily}
@@ -75,12 +75,6 @@ saidBy (Reply4 status) = ownReply4 status
 unfoldable pub offers : ℕ → List ℕ → Bool
 offers m [] = false
 offers m (x ∷ xs) = eqb x m || offers m xs
-
-unfoldable pub same : List ℕ → List ℕ → Bool
-same [] [] = true
-same [] (y ∷ ys) = false
-same (x ∷ xs) [] = false
-same (x ∷ xs) (y ∷ ys) = eqb x y && same xs ys
 
 -- ---- a request read on from the place: not there, it waits; wrong, it fails with 19 and sends nothing more; whole, it goes on
 

@@ -6,7 +6,7 @@ use lib.ListN.{length, take, drop}
 use lib.Dec.{leb, eqb}
 use Rattle.protocol.specs.declared.SocksError.{SocksError}
 use Rattle.protocol.specs.declared.SocksError.the-variants.{Unsupported, Command, Settled, ShortOutput, Malformed, WrongCredentials}
-use Rattle.protocol.specs.Bytes.{byte, twoOf}
+use Rattle.protocol.specs.Bytes.{byte, twoOf, same}
 use Rattle.protocol.specs.declared.Version.the-variants.{V4, V5}
 use Rattle.protocol.specs.AddressReading.{Destination, ipv4, ipv6, domain}
 use Rattle.protocol.specs.Bound.{Endpoint, endpoint}
@@ -15,7 +15,7 @@ use Rattle.proxy_spec.specs.Reads.{short, wrong, unknown, whole, Seen, t
 use Rattle.proxy_spec.specs.declared.Ports.{Ports}
 use Rattle.proxy_spec.specs.declared.Field.{Field}
 use Rattle.proxy_spec.specs.declared.Field.the-variants.{First, Methods, User, Password, Head, Address, Request, UserId, Name}
-use Rattle.proxy_spec.specs.End.{Setup, Asked, asked, Standing, waits, asks, fails, chosen, methodReply, loginReply, ownReply5, ownReply4, offers, same}
+use Rattle.proxy_spec.specs.End.{Setup, Asked, asked, Standing, waits, asks, fails, chosen, methodReply, loginReply, ownReply5, ownReply4, offers}
 use Rattle.talk.specs.Decision.{Decision, undecided, decided, good, bad}
 use Rattle.talk.specs.Talk.{done, failed, Talk, stop, send, await, Side, Session, waiting, ended}
 

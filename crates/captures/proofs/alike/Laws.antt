@@ -12,10 +12,10 @@ use lib.ListN.{length, take, drop, drop-of-length-le}
 use lib.Seq.{drop-cons, take-nil}
 use lib.Dec.{leb, eqb}
 use borrow.Author.Tests.{eq-eqb, ne-eqb}
-use Rattle.protocol.specs.Bytes.{byte}
+use Rattle.protocol.specs.Bytes.{byte, same}
 use Rattle.protocol.specs.Opening.{isNone}
 use Rattle.captures_spec.specs.Captures.{Direction, sent, received, Entry, if, joined}
-use Rattle.captures_spec.specs.Reading.{rowOf, same, alike}
+use Rattle.captures_spec.specs.Reading.{rowOf, alike}
 use Rattle.captures.specs.declared.entries.Head.{Head}
 use Rattle.captures.specs.declared.alike.Cursor.{Cursor}
 use Rattle.captures.specs.Coded.{way, Remains}

@@ -9,8 +9,7 @@ use lib.ListN.{length, drop, drop-of-length-le}
 use lib.Seq.{drop-cons}
 use lib.Dec.{eqb}
 use borrow.Author.Tests.{eq-eqb, ne-eqb}
-use Rattle.protocol.specs.Bytes.{byte}
-use Rattle.captures_spec.specs.Reading.{same}
+use Rattle.protocol.specs.Bytes.{byte, same}
 
 pub heads-differ : {x y : ℕ} (xs ys : List ℕ) → (x ≡ y → ⊥) → same (x ∷ xs) (y ∷ ys) ≡ false
 unfolding same

@@ -8,6 +8,8 @@ use lib.ListN.{length, take, drop, replicate, length-append, length-take, length
 use lib.Seq.{length-take-le, take-append-le, drop-append-le, take-append-add, take-append-seam}
 use lib.Dec.{leb, eqb, lit≤}
 use borrow.Author.Tests.{le-leb, lt-leb}
+use Rattle.protocol.proofs.Bytes.{same-equal}
+use Rattle.protocol.specs.Bytes.{same}
 use Rattle.protocol.specs.declared.Reply.the-variants.{NegotiationRes, AuthenticationRes, ProxyRes, Response}
 use Rattle.protocol.specs.declared.SocksError.the-variants.{Settled, OutOfOrder}
 use Rattle.client_stages.specs.declared.due.Stage.{Stage}
@@ -18,8 +20,6 @@ use Rattle.client_session.specs.Session.{sideOf, view, roomAt}
 use Rattle.client_session.specs.Calls.{Call, refusal, takes, deliver, DeliverResult}
 use Rattle.talk.specs.Talk.{onward, isOver}
 use Rattle.captures_spec.specs.Captures.{sent, received}
-use Rattle.captures_spec.specs.Reading.{same}
-use Rattle.captures_spec.proofs.Alike.{same-true}
 use Rattle.captures.specs.declared.walk.Course.{Course}
 use Rattle.captures.specs.Walk.{taking, passed}
 use Rattle.captures.specs.Coded.{Within, Passes}
@@ -55,7 +55,7 @@ module _ (c : Course) (bs out : List ℕ) (w : Within c out) where
       go : (t : Bool) → same bs (take (length bs) (drop (c .sent) (take (c .due) out))) ≡ t → t ≡ false
       go false q = refl
       go true q =
-          absurd (omega (arith, ap length (same-true bs _ q), length-take (length bs) (drop (c .sent) (take (c .due) out)), length-drop (c .sent) (take (c .due) out), due-long))
+          absurd (omega (arith, ap length (same-equal bs _ q), length-take (length bs) (drop (c .sent) (take (c .due) out)), length-drop (c .sent) (take (c .due) out), due-long))
 
   pub sent-held : (end : ℕ) → end ≡ c .sent + length bs → length bs ≤ c .due - c .sent → {b : Bool} → b ≡ same bs (take (end - c .sent) (drop (c .sent) out))
       → Passes sent bs c out (course (c .session) (c .due) end b) out

@@ -8,7 +8,7 @@ use lib.ListN.{length, take, drop}
 use lib.Dec.{eqb}
 use Rattle.protocol.specs.declared.SocksError.{SocksError}
 use Rattle.protocol.specs.declared.Version.{Version}
-use Rattle.protocol.specs.Bytes.{byte}
+use Rattle.protocol.specs.Bytes.{byte, same}
 use Rattle.protocol.specs.Bound.{Endpoint, endpoint}
 use Rattle.protocol.specs.AddressReading.{Destination, ipv4, domain}
 use Rattle.protocol.specs.Opening.{announces}
@@ -17,7 +17,7 @@ use Rattle.proxy_spec.specs.declared.Field.{Field}
 use Rattle.proxy_spec.specs.declared.Field.the-variants.{First, Methods, User, Password, Head, Address, Request, UserId, Name}
 use Rattle.proxy_spec.specs.declared.Stage.{Stage}
 use Rattle.proxy_spec.specs.declared.Stage.the-variants.{Awaiting, Asked, Open, Failed}
-use Rattle.proxy_spec.specs.End.{Setup, chosen, offers, same, saidBy}
+use Rattle.proxy_spec.specs.End.{Setup, chosen, offers, saidBy}
 use Rattle.proxy_spec.specs.Side.{EndTalk, isKnown, ipOf, atUser, atHead, unlessOther4, reads, talkAt, server}
 use Rattle.proxy_decisions.specs.declared.decision.Due.{Due}
 use Rattle.proxy_decisions.specs.decision.Due.{behindGreeting, dueRequest, dueAt, asksAt, sessionAt, talkFrom, dueTalk, rank}

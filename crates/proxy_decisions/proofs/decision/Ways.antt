@@ -5,12 +5,12 @@ use mathlib.Core.Bool.{Bool, true, false}
 use mathlib.Core.List.{List}
 use lib.ListN.{drop}
 use Rattle.protocol.specs.declared.SocksError.the-variants.{Unsupported, Command, WrongCredentials}
-use Rattle.protocol.specs.Bytes.{byte}
+use Rattle.protocol.specs.Bytes.{byte, same}
 use Rattle.proxy_spec.specs.declared.Field.{Field}
 use Rattle.proxy_spec.specs.declared.Field.the-variants.{Head, Address}
 use Rattle.proxy_spec.specs.declared.Says.the-variants.{Method, Login, Reply5}
 use Rattle.proxy_spec.specs.declared.Stage.the-variants.{Awaiting}
-use Rattle.proxy_spec.specs.End.{chosen, offers, same}
+use Rattle.proxy_spec.specs.End.{chosen, offers}
 use Rattle.proxy_spec.specs.Side.{isKnown}
 use Rattle.proxy_decisions.specs.declared.decision.Due.{Due}
 use Rattle.proxy_decisions.specs.decision.Due.{goesTo, failsWith, behindGreeting, dueMethods, duePassword, dueHead}

@@ -9,8 +9,8 @@ use lib.ListN.{length, drop, length-append, length-drop, drop-of-length-le}
 use lib.Seq.{drop-cons}
 use lib.Dec.{eqb}
 use borrow.Author.Tests.{eq-eqb, ne-eqb}
-use Rattle.protocol.specs.Bytes.{byte}
-use Rattle.proxy_spec.specs.End.{offers, same}
+use Rattle.protocol.specs.Bytes.{byte, same}
+use Rattle.proxy_spec.specs.End.{offers}
 
 -- ---- the methods from a place on; a byte of them was read
 

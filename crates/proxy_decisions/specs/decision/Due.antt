@@ -8,7 +8,7 @@ use Rattle.protocol.specs.declared.SocksError.{SocksError}
 use Rattle.protocol.specs.declared.SocksError.the-variants.{Unsupported, Command, WrongCredentials}
 use Rattle.protocol.specs.declared.Version.{Version}
 use Rattle.protocol.specs.declared.Version.the-variants.{V4, V5}
-use Rattle.protocol.specs.Bytes.{byte}
+use Rattle.protocol.specs.Bytes.{byte, same}
 use Rattle.protocol.specs.AddressReading.{ipv4, domain}
 use Rattle.protocol.specs.Bound.{Endpoint, endpoint, unbound}
 use Rattle.protocol.specs.Opening.{announces}
@@ -17,7 +17,7 @@ use Rattle.proxy_spec.specs.declared.Field.{Field}
 use Rattle.proxy_spec.specs.declared.Field.the-variants.{First, Methods, User, Password, Head, Address, Request, UserId, Name}
 use Rattle.proxy_spec.specs.declared.Stage.{Stage}
 use Rattle.proxy_spec.specs.declared.Stage.the-variants.{Awaiting, Asked, Open, Failed}
-use Rattle.proxy_spec.specs.End.{Setup, chosen, offers, same, asked, saidBy}
+use Rattle.proxy_spec.specs.End.{Setup, chosen, offers, asked, saidBy}
 use Rattle.proxy_spec.specs.Side.{EndTalk, EndSession, isKnown, portsOf, ipOf, targetOf, talkAt}
 use Rattle.proxy_spec.specs.declared.Says.{Says}
 use Rattle.proxy_spec.specs.declared.Says.the-variants.{Nothing, Method, Login, Reply5, Reply4}

@@ -10,7 +10,7 @@ use lib.Seq.{length-take-le, drop-drop}
 use Rattle.protocol.specs.declared.SocksError.{SocksError}
 use Rattle.protocol.specs.declared.Version.{Version}
 use lib.Dec.{eqb}
-use Rattle.protocol.specs.Bytes.{Bytes, byte}
+use Rattle.protocol.specs.Bytes.{Bytes, byte, same}
 use Rattle.protocol.proofs.Bytes.{bytes-part}
 use Rattle.protocol.specs.declared.Verdict as judge
 use Rattle.protocol.specs.declared.Decision as code
@@ -22,7 +22,7 @@ use Rattle.proxy_spec.specs.declared.Says.{Says}
 use Rattle.proxy_spec.specs.declared.Says.the-variants.{Nothing, Method, Login, Reply5, Reply4}
 use Rattle.proxy_spec.specs.declared.Stage.{Stage}
 use Rattle.proxy_spec.specs.declared.Stage.the-variants.{Awaiting, Asked, Open, Failed}
-use Rattle.proxy_spec.specs.End.{Setup, chosen, offers, same, saidBy}
+use Rattle.proxy_spec.specs.End.{Setup, chosen, offers, saidBy}
 use Rattle.proxy_spec.specs.Side.{isKnown, reads, talkAt, server}
 use Rattle.proxy_spec.proofs.Side.{server-lawful, held-most}
 use Rattle.proxy_decisions.specs.declared.decision.Due.{Due}

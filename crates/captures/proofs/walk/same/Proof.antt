@@ -2,7 +2,7 @@ use borrow.Author.Needs.{needs}
 use Prim.Native.Nat.{_-_}
 use mathlib.Core.Path.{_≡_, refl}
 use lib.ListN.{length, drop}
-use Rattle.captures_spec.specs.Reading.{same}
+use Rattle.protocol.specs.Bytes.{same}
 use Rattle.captures.proofs.alike.Same.{same-not, same-other, same-on, same-all}
 use Rattle.captures.proofs.walk.same.Statement.{statement}
 use Rattle.captures.proofs.walk.same.Tie as tie

@@ -2,7 +2,7 @@ use mathlib.Core.Path.{_≡_, refl, _∙_}
 use mathlib.Core.List.{_++_}
 use Prim.Native.Nat.{_+_, _-_}
 use lib.ListN.{length, drop}
-use Rattle.proxy_spec.specs.End.{same}
+use Rattle.protocol.specs.Bytes.{same}
 use Rattle.proxy_decisions.proofs.tests.Loops.{same-first, same-not, same-other, same-on, same-all}
 use borrow.Author.Needs.{needs}
 use Rattle.proxy_decisions.proofs.tests.same.Statement.{statement}
