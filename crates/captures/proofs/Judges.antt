@@ -17,7 +17,7 @@ use Rattle.protocol.proofs.Limits.{limits5, limits4, number-is}
 use Rattle.protocol.proofs.Openings.{all-passed, checked, check5-just, check4-just}
 use Rattle.protocol.proofs.Claims.{none-then, none-both, answers-behind, answers-before}
 use Rattle.client_session.specs.Calls.{preparedFor, preparedBy, prepare5, prepare4}
-use Rattle.captures_spec.specs.Captures.{received, Entry, Row, RunsPast, AcceptedCapture, AlikeCaptures, oneCapture, twoCaptures}
+use Rattle.captures_spec.specs.Captures.{received, Entry, Row, RunsPast, AcceptedCapture, AlikeCaptures}
 use Rattle.captures_spec.specs.Reading.{rowOf, alike}
 use Rattle.captures_spec.proofs.Rows.{Reads, is-row, is-past, reads, one-row, never-both}
 use Rattle.captures_spec.proofs.Alike.{row-bytes, alike-just}
@@ -25,7 +25,7 @@ use Rattle.captures.specs.declared.judge.Compared.{Compared}
 use Rattle.captures.specs.Walk.{held}
 use Rattle.captures.specs.Calls as calls
 use Rattle.captures.specs.Calls.{heldBy, heldBoth, compared, check5, check4, compare5, compare4}
-use Rattle.captures.specs.Judges.{Checks, Compares, Checks5, Checks4, Compares5, Compares4}
+use Rattle.captures.specs.Judges.{oneCapture, twoCaptures, Checks, Compares, Checks5, Checks4, Compares5, Compares4}
 use Rattle.captures.proofs.Walked.{held-just}
 
 -- the first condition holds

@@ -1,3 +1,4 @@
 pub mod Walked
 pub mod Judges
 pub mod Own
+pub mod Claims

@@ -3,16 +3,24 @@ use Prim.Native.Nat.{ℕ}
 use mathlib.Core.Path.{_≡_}
 use mathlib.Core.Logic.{_↔_}
 use mathlib.Core.Bool.{true}
-use mathlib.Core.List.{List, _++_}
+use mathlib.Core.List.{List, [], _∷_, _++_}
 use Rattle.protocol.specs.declared.Answer.{Answer}
 use Rattle.protocol.specs.Bytes.{Bytes}
 use Rattle.protocol.specs.Numbers.{answerNumber}
-use Rattle.protocol.specs.Opening.{V5, V4, Condition, conditions5, conditions4, None, Answers, Opening, opening5, opening4, Sixteen}
-use Rattle.captures_spec.specs.Captures.{oneCapture, twoCaptures, AlikeCaptures}
+use Rattle.protocol.specs.Opening.{V5, V4, Condition, _↣_, conditions5, conditions4, None, Answers, Opening, opening5, opening4, Sixteen}
+use Rattle.captures_spec.specs.Captures.{RunsPast, AcceptedCapture, AlikeCaptures}
 use Rattle.captures.specs.declared.judge.Compared.{Compared}
 use Rattle.captures.specs.Calls.{check5, check4, compare5, compare4}
 
--- behind the conditions of preparing: each number exactly when its condition holds and none before it
+-- the checks behind those of preparing, each with its number: an entry that runs past the end, in the first capture and then in the second; then a first
+-- capture that is not accepted
+abbrev pub oneCapture : Opening → List ℕ → List Condition
+oneCapture o c = (RunsPast c ↣ 25) ∷ ((AcceptedCapture o c → ⊥) ↣ 26) ∷ []
+
+abbrev pub twoCaptures : Opening → List ℕ → List ℕ → List Condition
+twoCaptures o c c′ = (RunsPast c ↣ 25) ∷ (RunsPast c′ ↣ 25) ∷ ((AcceptedCapture o c → ⊥) ↣ 26) ∷ []
+
+-- each number exactly when its condition holds and none before it
 abbrev pub Checks : List Condition → Opening → List ℕ → Answer → Type 0
 Checks cs o c x = Answers (answerNumber x) (cs ++ oneCapture o c)
 

@@ -6,7 +6,7 @@ use mathlib.Core.List.{List, [], _∷_, _++_}
 use lib.ListN.{length, take}
 use Rattle.protocol.specs.Bytes.{two}
 use Rattle.protocol.specs.Bound.{Endpoint}
-use Rattle.protocol.specs.Opening.{Opening, Condition, _↣_}
+use Rattle.protocol.specs.Opening.{Opening}
 use Rattle.protocol.specs.Machine.{machine}
 use Rattle.protocol.specs.Grammar.{Sequence}
 
@@ -90,11 +90,3 @@ Alike es fs = (d : Direction) → joined d es ≡ joined d fs
 
 abbrev pub AlikeCaptures : List ℕ → List ℕ → Type 0
 AlikeCaptures c c′ = (es : List Entry) × (fs : List Entry) × Row c es × Row c′ fs × Alike es fs
-
--- ---- the checks behind those of preparing, each with its number
-
-abbrev pub oneCapture : Opening → List ℕ → List Condition
-oneCapture o c = (RunsPast c ↣ 25) ∷ ((AcceptedCapture o c → ⊥) ↣ 26) ∷ []
-
-abbrev pub twoCaptures : Opening → List ℕ → List ℕ → List Condition
-twoCaptures o c c′ = (RunsPast c ↣ 25) ∷ (RunsPast c′ ↣ 25) ∷ ((AcceptedCapture o c → ⊥) ↣ 26) ∷ []
