@@ -1,3 +1,5 @@
+pub mod Prepared
+pub mod TwoCalls
 pub mod Walked
 pub mod Judges
 pub mod Own
