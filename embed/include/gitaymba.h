@@ -47,7 +47,7 @@ extern "C" {
 #define GITAYMBA_KIND_NAME 3
 #define GITAYMBA_KIND_IPV6 4
 
-/* Why a call was refused (answer) or a session failed (outcome.number). There is no 11. No call here meets 1, 18, 21 and 27. */
+/* Why a call was refused (answer) or a session failed (outcome.number). There is no 11. No call here meets 1, 18, 21 and 24 to 27. */
 #define GITAYMBA_ERRORS(X) \
     X(1, SHORT_OUTPUT, "the output buffer is too short") \
     X(2, MISSING_HOST, "the host is missing") \
@@ -71,6 +71,9 @@ extern "C" {
     X(21, ROUTE_LENGTH, "a route takes one to eight proxies") \
     X(22, OUT_OF_ORDER, "the session is not started, or was started before") \
     X(23, ANNOUNCES_NAME, "SOCKS4 cannot ask for an address 0.0.0.x") \
+    X(24, BAD_LINE, "the proxy line goes wrong") \
+    X(25, CAPTURE_CUT, "an entry runs past the capture's end") \
+    X(26, CAPTURE_NOT_ACCEPTED, "the capture is not a lawful handshake") \
     X(27, SHORT_STREAM, "the stream buffer is too short")
 
 enum gitaymba_error {

@@ -14,7 +14,7 @@ use Rattle.protocol.proofs.Limits.{number-accepted}
 use Rattle.protocol.proofs.Claims.{none-then, none-both}
 use Rattle.captures_spec.specs.Captures.{RunsPast, OneReading, AlikeCaptures}
 use Rattle.captures_spec.proofs.Rows.{one-reading}
-use Rattle.captures.specs.declared.judge.Compared.{Compared}
+use Rattle.captures.specs.declared.Compared.{Compared}
 use Rattle.captures.specs.Calls.{check5, check4, compare5, compare4}
 use Rattle.captures.specs.Judges.{oneCapture, twoCaptures, Checks, Compares}
 use Rattle.captures.proofs.Judges.{checks5, checks4, compares5, compares4}

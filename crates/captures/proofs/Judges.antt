@@ -21,7 +21,7 @@ use Rattle.captures_spec.specs.Captures.{received, Entry, Row, RunsPast, Accept
 use Rattle.captures_spec.specs.Reading.{rowOf, alike}
 use Rattle.captures_spec.proofs.Rows.{Reads, is-row, is-past, reads, one-row, never-both}
 use Rattle.captures_spec.proofs.Alike.{row-bytes, alike-just}
-use Rattle.captures.specs.declared.judge.Compared.{Compared}
+use Rattle.captures.specs.declared.Compared.{Compared}
 use Rattle.captures.specs.Walk.{held}
 use Rattle.captures.specs.Calls as calls
 use Rattle.captures.specs.Calls.{heldBy, heldBoth, compared, check5, check4, compare5, compare4}

@@ -13,7 +13,7 @@ use Rattle.client_session.specs.declared.Prepared.{Prepared}
 use Rattle.client_session.specs.Calls.{prepare5, prepare4}
 use Rattle.captures_spec.specs.Captures.{Entry}
 use Rattle.captures_spec.specs.Reading.{rowOf, alike}
-use Rattle.captures.specs.declared.judge.Compared.{Compared}
+use Rattle.captures.specs.declared.Compared.{Compared}
 use Rattle.captures.specs.Walk.{held}
 
 -- ---- one capture

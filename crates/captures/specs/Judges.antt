@@ -9,7 +9,7 @@ use Rattle.protocol.specs.Bytes.{Bytes}
 use Rattle.protocol.specs.Numbers.{answerNumber}
 use Rattle.protocol.specs.Opening.{V5, V4, Condition, _↣_, conditions5, conditions4, None, Answers, Opening, opening5, opening4, Sixteen}
 use Rattle.captures_spec.specs.Captures.{RunsPast, AcceptedCapture, AlikeCaptures}
-use Rattle.captures.specs.declared.judge.Compared.{Compared}
+use Rattle.captures.specs.declared.Compared.{Compared}
 use Rattle.captures.specs.Calls.{check5, check4, compare5, compare4}
 
 -- the checks behind those of preparing, each with its number: an entry that runs past the end, in the first capture and then in the second; then a first

@@ -2,6 +2,7 @@
 ghost use mathlib.Core.Path.{_≡_};
 ghost use Rattle.captures_spec.specs.Reading.{rowOf};
 ghost use Rattle.captures.specs.Calls.{heldBy, checked, refused, heldBoth, compared};
+use crate::Compared;
 use crate::alike::alike;
 use crate::entries::runs_past;
 use crate::walk::holds;
@@ -9,12 +10,6 @@ use client_session::Prepared;
 use client_session::Session;
 use protocol::Answer;
 use protocol::SocksError;
-
-// alike: accepted, and both directions of the two captures join to the same bytes.
-pub struct Compared {
-    pub answer: Answer,
-    pub alike: bool,
-}
 
 fn check_prepared(session: Session, capture: &[u8]) -> Answer
     ensures { λ r. ⌜ r ≡ heldBy session (rowOf (now (capture .entry))) ⌝ }

@@ -6,4 +6,10 @@ pub mod v4;
 pub mod v5;
 mod walk;
 
-pub use judge::Compared;
+use protocol::Answer;
+
+// alike: accepted, and both directions of the two captures join to the same bytes.
+pub struct Compared {
+    pub answer: Answer,
+    pub alike: bool,
+}

@@ -50,6 +50,12 @@ pub enum Error {
     OutOfOrder,
     /// 23: an address `0.0.0.x`, which over SOCKS4 would announce a name.
     AnnouncesName,
+    /// 24: the proxy line goes wrong. Not met by calls of this crate.
+    BadLine,
+    /// 25: an entry of a capture runs past its end. Not met by calls of this crate.
+    CaptureCut,
+    /// 26: the capture is not a lawful handshake. Not met by calls of this crate.
+    CaptureNotAccepted,
     /// 27: the buffer is too short for the stream. Not met by calls of this crate.
     ShortStream,
 }
@@ -57,7 +63,7 @@ pub enum Error {
 use Error::*;
 
 /// All errors, 15 with a status.
-const fn all(status: u8) -> [Error; 23] {
+const fn all(status: u8) -> [Error; 26] {
     [
         ShortOutput,
         MissingHost,
@@ -81,6 +87,9 @@ const fn all(status: u8) -> [Error; 23] {
         RouteLength,
         OutOfOrder,
         AnnouncesName,
+        BadLine,
+        CaptureCut,
+        CaptureNotAccepted,
         ShortStream,
     ]
 }
@@ -111,6 +120,9 @@ impl Error {
             RouteLength => 21,
             OutOfOrder => 22,
             AnnouncesName => 23,
+            BadLine => 24,
+            CaptureCut => 25,
+            CaptureNotAccepted => 26,
             ShortStream => 27,
         }
     }
@@ -160,6 +172,9 @@ impl Error {
             RouteLength => "a route has one to eight proxies",
             OutOfOrder => "the session is not started, or already was",
             AnnouncesName => "over SOCKS4 an address 0.0.0.x announces a name",
+            BadLine => "the proxy line goes wrong",
+            CaptureCut => "an entry runs past the capture's end",
+            CaptureNotAccepted => "the capture is not a lawful handshake",
             ShortStream => "the stream buffer is too short",
         }
     }

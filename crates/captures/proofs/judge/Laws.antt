@@ -13,7 +13,7 @@ use Rattle.client_session.specs.declared.Session.{Session}
 use Rattle.client_session.specs.declared.Prepared.{Prepared}
 use Rattle.captures_spec.specs.Captures.{Entry}
 use Rattle.captures_spec.specs.Reading.{alike}
-use Rattle.captures.specs.declared.judge.Compared.{Compared}
+use Rattle.captures.specs.declared.Compared.{Compared}
 use Rattle.captures.specs.Walk.{held}
 use Rattle.captures.specs.Calls.{heldBy, checkedBy, checked, refused, heldBoth, comparedBy, compared}
 use Rattle.captures.proofs.entries.Laws.{there-is, there-is-none}
