@@ -182,3 +182,51 @@ module _ (W : List ℕ → ℕ → Type 0) (F : Reader ℕ) (mark : ℕ) (l : La
       (law-map consed Any (Joined W (Then (Many W mark k))) (seq F (always (many F mark k)))
         (law-seq Any W F (Then (Many W mark k)) (always (many F mark k)) l (λ v. law-many k) (λ v. none-of k)))
       (many-apart (Many W mark k))
+
+-- a row of words, one behind another
+pub data Row (W : List ℕ → ℕ → Type 0) : List ℕ → List ℕ → Type 0 where
+  end : Row W [] []
+  next : {a s vs : List ℕ} {v : ℕ} → W a v → Row W s vs → Row W (a ++ s) (v ∷ vs)
+
+-- at most so many of them, and the mark
+pub record Marked (W : List ℕ → ℕ → Type 0) (mark k : ℕ) (w vs : List ℕ) : Type 0 where
+  pub s : List ℕ
+  pub spelt : w ≡ s ++ (mark ∷ [])
+  pub row : Row W s vs
+  pub few : length vs ≤ k
+
+module _ (W : List ℕ → ℕ → Type 0) (mark : ℕ) where
+  mark-only : {k : ℕ} {w vs : List ℕ} → Is (mark ∷ []) [] w vs → Marked W mark k w vs
+  mark-only {k} {w} {vs} i = record { s = []; spelt = i .spelt; row = rw (i .value) end; few = rw (i .value) (omega arith) }
+
+  one-more : {k : ℕ} {w vs : List ℕ} {t : ℕ × ℕ × List ℕ} {X : List ℕ → List ℕ → Type 0}
+      → (j : Joined W (Then X) w t) → vs ≡ consed t → Marked W mark k (j .b) (t .2) → Marked W mark (suc k) w vs
+  one-more {k} {w} {vs} {t} j e m =
+      record {
+        s = j .a ++ m .s;
+        spelt = j .split ∙ rw (m .spelt, append-assoc (j .a) (m .s) (mark ∷ []));
+        row = rw e (next (j .first) (m .row));
+        few = rw e (let f = m .few in omega arith);
+      }
+
+  pub marked : (k : ℕ) {w vs : List ℕ} → Many W mark k w vs → Marked W mark k w vs
+  marked zero i = mark-only i
+  marked (suc k) (R.one i) = mark-only i
+  marked (suc k) (R.other x) = one-more (x .word) (x .is) (marked k (x .word .second))
+
+  pub many-of : (k : ℕ) {s vs : List ℕ} → Row W s vs → length vs ≤ k → Many W mark k (s ++ (mark ∷ [])) vs
+  many-of zero end h = record { spelt = refl; value = refl }
+  many-of (suc k) end h = R.one (record { spelt = refl; value = refl })
+  many-of zero (next x y) h = absurd (omega arith)
+  many-of (suc k) (next {a} {s} {vs} {v} x y) h =
+      R.other (record {
+        value = (v, length a, vs);
+        word = record { a = a; b = s ++ (mark ∷ []); split = append-assoc a s (mark ∷ []); long = refl; first = x; second = many-of k y (omega arith) };
+        is = refl;
+      })
+
+  -- the field of a row and its mark
+  pub law-marked : (F : Reader ℕ) → Law Any W F → ((w t : List ℕ) (v : ℕ) → W w v → (r : List ℕ) → mark ∷ r ≡ w ++ t → ⊥) → (k : ℕ)
+      → Law Any (Marked W mark k) (many F mark k)
+  law-marked F l clear k =
+      R.law-as (λ w vs x. marked k x) (λ w vs x. subst (λ (z : List ℕ). Many W mark k z vs) (sym (x .spelt)) (many-of k (x .row) (x .few))) (law-many W F mark l clear k)

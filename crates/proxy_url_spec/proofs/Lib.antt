@@ -1,2 +1,4 @@
 pub mod Readers
 pub mod Fields
+pub mod Schemes
+pub mod Credentials

@@ -77,6 +77,9 @@ pub record Image {A B : Type 0} (f : A → B) (W : List ℕ → A → Type 0) (w
   pub word : W w value
   pub is : u ≡ f value
 
+pub some-image : {A B : Type 0} (f : A → B) {W : List ℕ → A → Type 0} → Inhabited W → Inhabited (Image f W)
+some-image f x = record { w = x .w; v = f (x .v); word = record { value = x .v; word = x .word; is = refl } }
+
 module _ {A B : Type 0} (f : A → B) (Ok : List ℕ → Type 0) (W : List ℕ → A → Type 0) (F : Reader A) (l : Law Ok W F) where
   map-sound : (s : List ℕ) (u : B) (n : ℕ) (r : Read A) → F s ≡ r → mapped f r ≡ reads u n → Found Ok (Image f W) s u n
   map-sound s u n (reads v m) q e =
@@ -116,6 +119,15 @@ pub record Joined {A B : Type 0} (W : List ℕ → A → Type 0) (X : A → List
   pub long : t .1 ≡ length a
   pub first : W a (t .0)
   pub second : X (t .0) b (t .2)
+
+pub some-joined : {A B : Type 0} {W : List ℕ → A → Type 0} {X : A → List ℕ → B → Type 0} → Inhabited W → ((v : A) → Inhabited (X v)) → Inhabited (Joined W X)
+some-joined x y =
+    let z = y (x .v) in
+    record {
+      w = x .w ++ z .w;
+      v = (x .v, length (x .w), z .v);
+      word = record { a = x .w; b = z .w; split = refl; long = refl; first = x .word; second = z .word };
+    }
 
 module _ {A B : Type 0} (Ok : List ℕ → Type 0) (W : List ℕ → A → Type 0) (F : Reader A) (X : A → List ℕ → B → Type 0) (G : A → Reader B)
     (l : Law Any W F) (k : (v : A) → Law Ok (X v) (G v)) (some : (v : A) → Inhabited (X v)) where
