@@ -2,3 +2,4 @@ pub mod Readers
 pub mod Fields
 pub mod Schemes
 pub mod Credentials
+pub mod Ports
