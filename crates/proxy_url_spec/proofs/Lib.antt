@@ -3,3 +3,4 @@ pub mod Fields
 pub mod Schemes
 pub mod Credentials
 pub mod Ports
+pub mod Texts
