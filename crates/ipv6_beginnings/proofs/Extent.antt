@@ -64,7 +64,7 @@ abbrev pub All : {A : Type 0} → (A → Type 0) → List A → Type 0
 All P [] = Unit {0}
 All P (b ∷ s) = P b × All P s
 
-all-append : (P : ℕ → Type 0) (s t : List ℕ) → All P s → All P t → All P (s ++ t)
+pub all-append : (P : ℕ → Type 0) (s t : List ℕ) → All P s → All P t → All P (s ++ t)
 all-append P [] t x y = y
 all-append P (b ∷ s) t x y = (x .0, all-append P s t (x .1) y)
 

@@ -4,3 +4,4 @@ pub mod Schemes
 pub mod Credentials
 pub mod Ports
 pub mod Texts
+pub mod Hosts
