@@ -94,7 +94,7 @@ law-escaped-by =
     law-or Any Plain Coded (one unreserved same) (map secondOf (seq (markOf 0x25) (always (map pairOf (seq hexOf (always hexOf))))))
     (law-one unreserved same 0x61 refl)
     (law-map secondOf Any (Joined (Is (0x25 ∷ []) tt) (Then Pair)) (seq (markOf 0x25) (always (map pairOf (seq hexOf (always hexOf)))))
-      (law-seq Any (Is (0x25 ∷ []) tt) (markOf 0x25) (Then Pair) (always (map pairOf (seq hexOf (always hexOf)))) (law-word (0x25 ∷ []) tt) (λ v. law-pair) (λ v. pair-some)))
+    (law-seq Any (Is (0x25 ∷ []) tt) (markOf 0x25) (Then Pair) (always (map pairOf (seq hexOf (always hexOf)))) (law-word (0x25 ∷ []) tt) (λ v. law-pair) (λ v. pair-some)))
     plain-coded
 
 hex-is : (b : ℕ) → isHex b ≡ true → Hex b (hexValue b)

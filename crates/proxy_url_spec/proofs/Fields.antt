@@ -180,7 +180,7 @@ module _ (W : List ℕ → ℕ → Type 0) (F : Reader ℕ) (mark : ℕ) (l : La
       law-or Any (Is (mark ∷ []) []) (Image consed (Joined W (Then (Many W mark k)))) (word (mark ∷ []) []) (map consed (seq F (always (many F mark k))))
       (law-word (mark ∷ []) [])
       (law-map consed Any (Joined W (Then (Many W mark k))) (seq F (always (many F mark k)))
-        (law-seq Any W F (Then (Many W mark k)) (always (many F mark k)) l (λ v. law-many k) (λ v. none-of k)))
+      (law-seq Any W F (Then (Many W mark k)) (always (many F mark k)) l (λ v. law-many k) (λ v. none-of k)))
       (many-apart (Many W mark k))
 
 -- a row of words, one behind another

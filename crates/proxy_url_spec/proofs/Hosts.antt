@@ -86,8 +86,8 @@ unfolding bracketsOf
 law-brackets =
     law-map bracketed Any (Joined (Mark 0x5B) (Then Closed)) (seq (markOf 0x5B) (always (seq ipv6TextOf (always (markOf 0x3A)))))
     (law-seq Any (Mark 0x5B) (markOf 0x5B) (Then Closed) (always (seq ipv6TextOf (always (markOf 0x3A)))) (law-word (0x5B ∷ []) tt)
-      (λ v. law-seq Any TextWord ipv6TextOf (Then (Mark 0x3A)) (always (markOf 0x3A)) law-text (λ u. law-word (0x3A ∷ []) tt) (λ u. mark-some 0x3A))
-      (λ v. some-joined text-some (λ u. mark-some 0x3A)))
+    (λ v. law-seq Any TextWord ipv6TextOf (Then (Mark 0x3A)) (always (markOf 0x3A)) law-text (λ u. law-word (0x3A ∷ []) tt) (λ u. mark-some 0x3A))
+    (λ v. some-joined text-some (λ u. mark-some 0x3A)))
 
 abbrev HB : List ℕ → ℕ → Type 0
 HB = Passes hostByte same
@@ -120,7 +120,7 @@ unfolding nameOf
 law-name =
     law-map named Any (Image consed (Joined HB (Then More))) (map consed (seq hostReader (always (many hostReader 0x3A 254))))
     (law-map consed Any (Joined HB (Then More)) (seq hostReader (always (many hostReader 0x3A 254)))
-      (law-seq Any HB hostReader (Then More) (always (many hostReader 0x3A 254)) law-host-byte (λ v. law-marked HB 0x3A hostReader law-host-byte colon-clear 254) (λ v. more-some)))
+    (law-seq Any HB hostReader (Then More) (always (many hostReader 0x3A 254)) law-host-byte (λ v. law-marked HB 0x3A hostReader law-host-byte colon-clear 254) (λ v. more-some)))
 
 bracket-or-name : Apart Any Brackets Name
 unfolding hostByte

@@ -5,3 +5,5 @@ pub mod Credentials
 pub mod Ports
 pub mod Texts
 pub mod Hosts
+pub mod Lines
+pub mod Places

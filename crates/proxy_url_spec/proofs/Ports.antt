@@ -112,9 +112,9 @@ digits-causal v n (b ∷ p) r t h = go (portGoes v n (hexValue b)) h (digits-cau
     go : (x : Bool)
         → cond x (digitsFrom portGoes 10 (v * 10 + hexValue b) (n + 1) (p ++ r)) (record { count = n; value = v }) .count < n + length (b ∷ p)
         → (digitsFrom portGoes 10 (v * 10 + hexValue b) (n + 1) (p ++ r) .count < n + 1 + length p
-          → digitsFrom portGoes 10 (v * 10 + hexValue b) (n + 1) (p ++ t) ≡ digitsFrom portGoes 10 (v * 10 + hexValue b) (n + 1) (p ++ r))
+        → digitsFrom portGoes 10 (v * 10 + hexValue b) (n + 1) (p ++ t) ≡ digitsFrom portGoes 10 (v * 10 + hexValue b) (n + 1) (p ++ r))
         → cond x (digitsFrom portGoes 10 (v * 10 + hexValue b) (n + 1) (p ++ t)) (record { count = n; value = v })
-          ≡ cond x (digitsFrom portGoes 10 (v * 10 + hexValue b) (n + 1) (p ++ r)) (record { count = n; value = v })
+        ≡ cond x (digitsFrom portGoes 10 (v * 10 + hexValue b) (n + 1) (p ++ r)) (record { count = n; value = v })
     go true g f = f (omega arith)
     go false g f = refl
 

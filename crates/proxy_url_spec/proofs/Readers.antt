@@ -59,6 +59,21 @@ module _ {A : Type 0} where
   pub one-value : {Ok : List ℕ → Type 0} {W : List ℕ → A → Type 0} {F : Reader A} → Law Ok W F → {s : List ℕ} {u v : A} → Ok [] → W s u → W s v → u ≡ v
   one-value l {s} {u} {v} o x y = let e = l .complete s [] u x o in let f = l .complete s [] v y o in cc
 
+  -- a place is within the text
+  pub reads-within : {Ok : List ℕ → Type 0} {W : List ℕ → A → Type 0} {F : Reader A} → Law Ok W F → {s : List ℕ} {v : A} {n : ℕ} → F s ≡ reads v n → n ≤ length s
+  reads-within l {s} {v} {n} e =
+      let x = l .sound s v n e in
+      let h = x .long in
+      let k = ap length (x .split) ∙ length-append (x .w) (x .t) in
+      omega arith
+
+  pub dies-within : {Ok : List ℕ → Type 0} {W : List ℕ → A → Type 0} {F : Reader A} → Law Ok W F → {s : List ℕ} {n : ℕ} → F s ≡ dies n → n ≤ length s
+  dies-within l {s} {n} e =
+      let x = l .alive s n e in
+      let h = x .long in
+      let k = ap length (x .split) ∙ length-append (x .p) (x .r) in
+      omega arith
+
   -- by words that are the same
   pub law-as : {Ok : List ℕ → Type 0} {W X : List ℕ → A → Type 0} {F : Reader A} → ((w : List ℕ) (v : A) → W w v → X w v) → ((w : List ℕ) (v : A) → X w v → W w v)
       → Law Ok W F → Law Ok X F
