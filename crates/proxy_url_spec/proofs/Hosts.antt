@@ -1,18 +1,17 @@
 -- F-9: a host and the colon behind it are read as the grammar has them.
-use Prim.Native.Nat.{ℕ, zero, suc, _+_, _≤_, _<_}
+use Prim.Native.Nat.{ℕ, _≤_}
 use native.Mathlib.Omega.{arith}
 use mathlib.Core.Path.{_≡_, refl, sym, ap, subst, _∙_}
 use mathlib.Core.Bool.{Bool, true, false, _&&_, not, false≢true}
-use mathlib.Core.List.{List, [], _∷_, _++_, append-assoc, append-nil}
-use lib.Dec.{leb, eqb}
+use mathlib.Core.List.{List, [], _∷_, _++_}
+use lib.Dec.{eqb}
 use lib.ListN.{length, getD}
 use borrow.Author.Tests.{leb-true, le-leb, eqb-false, ne-eqb, not-true}
-use Rattle.protocol.specs.AddressText.{Ipv6}
 use Rattle.proxy_url_spec.specs.Grammar as G
 use Rattle.proxy_url_spec.specs.Grammar.{HostByte, HostBytes, Host, ipv6, bytes}
-use Rattle.proxy_url_spec.specs.Reading.{Reader, one, map, seq, many, or, always, markOf, same, consed, Hosted, bracketed, named, ipv6TextOf, bracketsOf, hostByte, nameOf, hostOf}
+use Rattle.proxy_url_spec.specs.Reading.{Reader, one, map, seq, many, always, markOf, same, consed, Hosted, bracketed, named, ipv6TextOf, bracketsOf, hostByte, nameOf, hostOf}
 use Rattle.proxy_url_spec.proofs.Readers as R
-use Rattle.proxy_url_spec.proofs.Readers.{Any, Inhabited, Law, law-as, Image, some-image, law-map, Joined, some-joined, law-seq, Or, Apart, law-or}
+use Rattle.proxy_url_spec.proofs.Readers.{Any, Inhabited, Law, law-as, Image, law-map, Joined, some-joined, law-seq, Or, Apart, law-or}
 use Rattle.proxy_url_spec.proofs.Fields as F
 use Rattle.proxy_url_spec.proofs.Fields.{Is, law-word, Passes, law-one, Then, Row, Marked, law-marked}
 use Rattle.proxy_url_spec.proofs.Texts.{TextWord, law-text, text-some}

@@ -1,18 +1,18 @@
 -- F-9: a port is read as the grammar has it, up to the text's end.
 use Prim.Native.Nat.{ℕ, zero, suc, _+_, _*_, _≤_, _<_}
 use native.Mathlib.Omega.{arith}
-use mathlib.Core.Path.{_≡_, refl, sym, ap, subst, _∙_}
+use mathlib.Core.Path.{_≡_, refl, sym, ap, _∙_}
 use mathlib.Core.Bool.{Bool, true, false, cond, false≢true}
 use mathlib.Core.List.{List, [], _∷_, _++_, append-assoc, append-nil}
 use lib.Dec.{ltb, eqb}
 use lib.ListN.{length, length-append}
-use borrow.Author.Tests.{ltb-true, ltb-false, eqb-true, eqb-false, lt-ltb, le-ltb, eq-eqb, ne-eqb}
+use borrow.Author.Tests.{ltb-true, eqb-true, eqb-false, lt-ltb, eq-eqb, ne-eqb}
 use Rattle.protocol.specs.declared.Digits.{Digits}
 use Rattle.protocol.specs.AddressText.{Decimal, Hex, digit, upper, lower}
 use Rattle.protocol.specs.AddressReading.{hexValue, digitsFrom}
 use Rattle.protocol.proofs.AddressDigits.{hex-value, value-hex, Took, taken, ended}
 use Rattle.proxy_url_spec.specs.Grammar.{Port, one, more}
-use Rattle.proxy_url_spec.specs.Reading.{Read, reads, dies, portGoes, portBy, portOf}
+use Rattle.proxy_url_spec.specs.Reading.{reads, dies, portGoes, portBy, portOf}
 use Rattle.proxy_url_spec.proofs.Readers.{Nothing, Found, Alive, Law, reads-not-dies}
 
 -- ---- which digits may follow
