@@ -183,7 +183,7 @@ pub record TextWord (w s : List ℕ) : Type 0 where
   pub bytes : List ℕ
   pub is : Ipv6 s bytes
 
-both-true : (a b : Bool) → (a && b) ≡ true → (a ≡ true) × (b ≡ true)
+pub both-true : (a b : Bool) → (a && b) ≡ true → (a ≡ true) × (b ≡ true)
 both-true true b e = (refl, e)
 both-true false b e = absurd (false≢true e)
 
