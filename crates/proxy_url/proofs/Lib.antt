@@ -1,0 +1,4 @@
+pub mod Readers
+pub mod Inside
+pub mod Parts
+pub mod Lines
