@@ -7,7 +7,7 @@ use mathlib.Core.List.{List}
 use lib.ListN.{length, drop, length-drop}
 use Rattle.protocol.specs.declared.Answer.the-variants.{Accepted}
 use Rattle.buffers.proofs.write.Parts.{part-from}
-use Rattle.proxy_url_spec.specs.Reading.{map, seq, or, schemeOf, restOf, lineOf}
+use Rattle.proxy_url_spec.specs.Reading.{map, seq, schemeOf, restOf, lineOf}
 use Rattle.proxy_url.specs.declared.schemes.SchemeRead.{SchemeRead}
 use Rattle.proxy_url.specs.declared.rests.RestRead.{RestRead}
 use Rattle.proxy_url.specs.Coded.{schemeCoded, restCoded}

@@ -1,7 +1,6 @@
 -- F-9: how a reader goes on by the first bytes of a text. A byte past the end is 0, which passes no test and is no mark.
 use Prim.Native.Nat.{ℕ, zero, suc, _+_, _<_}
 use native.Mathlib.Nat.{zero-add, add-assoc, max-zero, zero-max}
-use native.Mathlib.Omega.{arith}
 use mathlib.Core.Path.{_≡_, refl, sym, ap, _∙_}
 use mathlib.Core.Bool.{Bool, true, false, cond, true≢false}
 use mathlib.Core.List.{List, [], _∷_, _++_, append-assoc}
@@ -9,7 +8,7 @@ use lib.ListN.{length, drop, List·getD-eq-default}
 use lib.Dec.{eqb, leb}
 use borrow.Author.Tests.{eq-eqb, ne-eqb, leb-true, leb-false, eqb-true, eqb-false}
 use Rattle.protocol.specs.Bytes.{byte}
-use Rattle.proxy_url_spec.specs.Reading.{Read, reads, dies, Reader, mapped, map, behind, onward, seq, always, either, later, or, common, word, one, consed, many}
+use Rattle.proxy_url_spec.specs.Reading.{Read, reads, dies, Reader, mapped, map, behind, onward, seq, always, either, or, common, word, one, consed, many}
 
 -- a byte other than 0 stands within the text
 pub byte-inside : (s : List ℕ) (n : ℕ) {m : ℕ} → (m ≡ 0 → ⊥) → byte s n ≡ m → n < length s

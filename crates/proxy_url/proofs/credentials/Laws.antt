@@ -1,19 +1,18 @@
 -- F-9: a byte of a credential by its first bytes, and a credential from a place on, way out by way out.
-use Prim.Native.Nat.{ℕ, zero, suc, _+_, _-_, _*_, _≤_, _<_}
-use native.Mathlib.Nat.{zero-add, add-zero, add-assoc}
+use Prim.Native.Nat.{ℕ, suc, _+_, _-_, _*_, _≤_, _<_}
+use native.Mathlib.Nat.{add-zero}
 use native.Mathlib.Numerals.{add-one}
 use native.Mathlib.Omega.{arith}
 use mathlib.Core.Path.{_≡_, refl, sym, ap, _∙_}
-use mathlib.Core.Bool.{Bool, true, false, cond, true≢false, false≢true}
-use mathlib.Core.List.{List, [], _∷_, _++_, append-assoc, append-nil}
-use lib.ListN.{length, take, drop, set, replicate, take-append-drop, length-append, length-take, length-drop, length-set, length-replicate}
-use lib.Seq.{getD-drop, drop-drop, drop-cons, drop-set-lt, take-suc-set, length-take-le}
-use lib.Dec.{ltb, eqb}
-use borrow.Author.Tests.{eq-eqb, ne-eqb}
-use Rattle.protocol.specs.Bytes.{byte, padded}
+use mathlib.Core.Bool.{Bool, true, false, cond}
+use mathlib.Core.List.{List, [], _∷_, _++_, append-nil}
+use lib.ListN.{length, take, drop, set, replicate, take-append-drop, length-drop, length-set, length-replicate}
+use lib.Seq.{getD-drop, drop-drop, drop-set-lt, take-suc-set, length-take-le}
+use lib.Dec.{eqb}
+use Rattle.protocol.specs.Bytes.{byte}
 use Rattle.protocol.specs.AddressReading.{hexValue}
 use Rattle.buffers.proofs.write.Parts.{part-from}
-use Rattle.proxy_url_spec.specs.Reading.{Read, reads, dies, Reader, mapped, map, behind, onward, either, seq, always, or, word, one, consed, many, unreserved, same, isHex, hexOf, pairOf, secondOf, markOf, escapedOf, credentialOf}
+use Rattle.proxy_url_spec.specs.Reading.{Read, reads, dies, mapped, map, behind, onward, either, seq, always, or, one, many, unreserved, same, isHex, hexOf, pairOf, secondOf, markOf, escapedOf, credentialOf}
 use Rattle.proxy_url.specs.declared.credentials.EscapedRead.{EscapedRead}
 use Rattle.proxy_url.specs.declared.credentials.CredentialRead.{CredentialRead}
 use Rattle.proxy_url.specs.Coded.{zeros, escapedCoded, credentialCoded}
@@ -61,7 +60,6 @@ escaped-first s =
     go true c b q = refl
     go false false b q = refl
     go false true b q = rw q (behind-mark (isHex (byte s 1)) (isHex (byte s 2)) (hexValue (byte s 1) * 16 + hexValue (byte s 2)))
-
 
 pub inside-escaped : Inside (λ u. 0) escapedOf
 unfolding escapedOf

@@ -5,11 +5,8 @@ use mathlib.Core.Path.{_≡_, refl}
 use mathlib.Core.Bool.{true, false}
 use mathlib.Core.List.{List}
 use lib.ListN.{length, take, drop, length-drop}
-use lib.Dec.{eqb}
-use Rattle.protocol.specs.declared.Digits.{Digits}
-use Rattle.protocol.specs.AddressReading.{digitsFrom}
 use Rattle.buffers.proofs.write.Parts.{part-from}
-use Rattle.proxy_url_spec.specs.Reading.{Rest, map, seq, always, hostOf, portGoes, portOf, plainRest, plainOf}
+use Rattle.proxy_url_spec.specs.Reading.{map, seq, always, hostOf, portOf, plainRest, plainOf}
 use Rattle.proxy_url.specs.declared.hosts.HostRead.{HostRead}
 use Rattle.proxy_url.specs.declared.ports.PortRead.{PortRead}
 use Rattle.proxy_url.specs.declared.endpoints.EndpointRead.{EndpointRead}

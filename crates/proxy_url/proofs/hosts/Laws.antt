@@ -23,7 +23,7 @@ use Rattle.buffers.proofs.write.Parts.{part-from}
 use Rattle.proxy_url_spec.specs.Reading.{Read, reads, dies, mapped, map, behind, onward, seq, always, or, common, word, one, consed, many, same, markOf, ipv6By, isSome, ipv6GoesOn, along, ipv6End, ipv6TextOf, Hosted, bracketed, bracketsOf, hostByte, named, nameOf, hostOf}
 use Rattle.proxy_url.specs.Coded.{lastly, hostCoded}
 use Rattle.proxy_url.specs.declared.hosts.HostRead.{HostRead}
-use Rattle.proxy_url.proofs.Readers.{byte-inside, mark-first, one-first, or-left, or-right, ahead, many-marked, many-full, many-more, many-dies}
+use Rattle.proxy_url.proofs.Readers.{byte-inside, mark-first, or-left, or-right, ahead, many-marked, many-full, many-more, many-dies}
 use Rattle.proxy_url.proofs.Inside.{Inside, bounded-cond, inside-or, inside-word, inside-one, inside-map, inside-seq, inside-both, inside-many}
 
 -- ---- an IPv6 text by an ending

@@ -12,7 +12,6 @@ use Rattle.protocol.specs.Bytes.{byte}
 use Rattle.protocol.specs.AddressReading.{hexValue, digitsFrom}
 use Rattle.address_text.proofs.digits.Runs.{digits-step}
 use Rattle.proxy_url_spec.specs.Reading.{reads, dies, portGoes, portBy, portOf}
-use Rattle.proxy_url.specs.declared.ports.PortRead.{PortRead}
 use Rattle.proxy_url.specs.Coded.{portCoded}
 use Rattle.proxy_url.proofs.Inside.{Bounded, Inside, bounded-cond}
 

@@ -5,11 +5,6 @@ use borrow.Author.Needs.{needs}
 use Rattle.proxy_url.proofs.credentials.Laws.{Going, goes-first, marked, full, stuck, goes-on, escaped-inside}
 use Rattle.proxy_url.proofs.credentials.read_credential.Statement.{statement}
 use Rattle.proxy_url.proofs.credentials.read_credential.Tie as tie
-use Rattle.proxy_url.proofs.credentials.read_credential.Reads as reads
-use Rattle.proxy_url.proofs.credentials.read_credential.Lts as lts
-use Rattle.proxy_url.proofs.credentials.no_credential.Reads as no-credential-reads
-use Rattle.proxy_url.proofs.credentials.read_escaped.Reads as read-escaped-reads
-use Rattle.proxy_url.proofs.texts.byte_at.Reads as byte-at-reads
 
 abbrev Inv-loop : tie.InvT-loop
 Inv-loop text mark bytes₀ len₀ at₀ bytes len at = Going mark text bytes len at
@@ -17,83 +12,63 @@ Inv-loop text mark bytes₀ len₀ at₀ bytes len at = Going mark text bytes le
 abbrev μ-loop : tie.MeasureT-loop
 μ-loop text mark bytes₀ len₀ at₀ bytes len at = 255 - len
 
--- src/credentials.rt:109:5
 loop-holds : tie.Need-loop-holds Inv-loop μ-loop
 loop-holds c = goes-first (c .before .args .mark) (c .before .args .text .now)
 
--- src/credentials.rt:110:12
 byte-at-requires : tie.Need-byte-at-requires Inv-loop μ-loop
 byte-at-requires c κs = search needs
 
--- src/credentials.rt:113:23
 add-t10 : tie.Need-add-t10 Inv-loop μ-loop
 add-t10 c = let h = byte-inside (c .before .before .before .before .before .args .text .now) (c .before .before .before .loop .at) (c .before .before .before .before .before .pre) (sym (c .before .byte-at .ensures) ∙ c .if1 .taken) in search needs
 
--- src/credentials.rt:111:13
 returns : tie.Need-returns Inv-loop μ-loop
 returns c = marked (c .before .before .before .before .before .pre) (c .before .before .before .loop .inv) (sym (c .before .byte-at .ensures) ∙ c .if1 .taken)
 
--- src/credentials.rt:118:32
 sub-read-escaped : tie.Need-sub-read-escaped Inv-loop μ-loop
 sub-read-escaped c = search needs
 
--- src/credentials.rt:118:32
 part-read-escaped-start : tie.Need-part-read-escaped-start Inv-loop μ-loop
 part-read-escaped-start c = search needs
 
--- src/credentials.rt:118:32
 part-read-escaped-end : tie.Need-part-read-escaped-end Inv-loop μ-loop
 part-read-escaped-end c = search needs
 
--- src/credentials.rt:118:13
 read-escaped-requires : tie.Need-read-escaped-requires Inv-loop μ-loop
 read-escaped-requires c κs = search needs
 
--- src/credentials.rt:119:20
 add-next : tie.Need-add-next Inv-loop μ-loop
 add-next c = let h = escaped-inside (c .before .before .before .before .before .before .before .before .args .text .now) (c .before .before .before .before .before .before .loop .at) (c .before .read-escaped .ensures) (c .before .before .before .before .before .before .loop .inv .inside) in search needs
 
--- src/credentials.rt:121:13
 array-write-bytes : tie.Need-array-write-bytes Inv-loop μ-loop
 array-write-bytes c = search needs
 
--- src/credentials.rt:122:13
 add-len : tie.Need-add-len Inv-loop μ-loop
 add-len c = search needs
 
--- src/credentials.rt:109:5
 loop-less : tie.Need-loop-less Inv-loop μ-loop
 loop-less c = search needs
 
--- src/credentials.rt:109:5
 loop-again : tie.Need-loop-again Inv-loop μ-loop
 loop-again c = goes-on (c .before .before .before .before .before .before .before .before .before .pre) (c .before .before .before .before .before .before .before .loop .inv) (λ e. c .before .before .before .before .if1 .left (c .before .before .before .before .before .byte-at .ensures ∙ e)) (c .before .before .before .before .before .before .loop-test .taken) (c .before .before .read-escaped .ensures) (c .if2 .taken)
 
--- src/credentials.rt:125:13
 no-credential-requires : tie.Need-no-credential-requires Inv-loop μ-loop
 no-credential-requires c κs = search needs
 
--- src/credentials.rt:125:13
 returns-2 : tie.Need-returns-2 Inv-loop μ-loop
 returns-2 c = rw (c .no-credential .ensures) (stuck (c .before .before .before .before .before .before .before .before .before .before .pre) (c .before .before .before .before .before .before .before .before .loop .inv) (λ e. c .before .before .before .before .before .if1 .left (c .before .before .before .before .before .before .byte-at .ensures ∙ e)) (c .before .before .before .before .before .before .before .loop-test .taken) (c .before .before .before .read-escaped .ensures) (c .before .if2 .left))
 
--- src/credentials.rt:128:8
 byte-at-requires-2 : tie.Need-byte-at-requires-2 Inv-loop μ-loop
 byte-at-requires-2 c κs = search needs
 
--- src/credentials.rt:131:19
 add-t20 : tie.Need-add-t20 Inv-loop μ-loop
 add-t20 c = let h = byte-inside (c .before .before .before .before .before .args .text .now) (c .before .before .before .loop .at) (c .before .before .before .before .before .pre) (sym (c .before .byte-at2 .ensures) ∙ c .if3 .taken) in search needs
 
--- src/credentials.rt:129:9
 returns-3 : tie.Need-returns-3 Inv-loop μ-loop
 returns-3 c = marked (c .before .before .before .before .before .pre) (c .before .before .before .loop .inv) (sym (c .before .byte-at2 .ensures) ∙ c .if3 .taken)
 
--- src/credentials.rt:136:5
 no-credential-requires-2 : tie.Need-no-credential-requires-2 Inv-loop μ-loop
 no-credential-requires-2 c κs = search needs
 
--- src/credentials.rt:102:1
 returns-4 : tie.Need-returns-4 Inv-loop μ-loop
 returns-4 c = rw (c .no-credential2 .ensures) (full (c .before .before .before .before .before .before .pre) (c .before .before .before .before .loop .inv) (λ e. c .before .if3 .left (c .before .before .byte-at2 .ensures ∙ e)) (c .before .before .before .loop-test .left))
 

@@ -7,12 +7,6 @@ use Rattle.proxy_url.proofs.hosts.Laws.{ipv6-inside, brackets-open, bra
 use borrow.Author.Needs.{needs}
 use Rattle.proxy_url.proofs.hosts.read_brackets.Statement.{statement}
 use Rattle.proxy_url.proofs.hosts.read_brackets.Tie as tie
-use Rattle.proxy_url.proofs.hosts.read_brackets.Reads as reads
-use Rattle.proxy_url.proofs.hosts.read_brackets.Lts as lts
-use Rattle.proxy_url.proofs.hosts.ipv6_end.Reads as ipv6-end-reads
-use Rattle.proxy_url.proofs.hosts.is_ipv6.Reads as is-ipv6-reads
-use Rattle.proxy_url.proofs.hosts.no_host.Reads as no-host-reads
-use Rattle.proxy_url.proofs.texts.byte_at.Reads as byte-at-reads
 
 -- the end of the text that was found
 end-inside : (c : tie.After-ipv6-end) → (c .ipv6-end .result ≤ length (c .before .before .args .text .now)) × (c .ipv6-end .result ≤ 45)
@@ -21,75 +15,36 @@ end-inside c = ipv6-inside (c .before .before .args .text .now) (c .ipv6-end .en
 part-long : (c : tie.After-ipv6-end) → length (take (c .ipv6-end .result) (c .before .before .args .text .now)) ≡ c .ipv6-end .result
 part-long c = length-take-le (c .ipv6-end .result) (c .before .before .args .text .now) (end-inside c .0)
 
--- src/hosts.rt:101:9
-ipv6-end-requires : tie.Need-ipv6-end-requires
-ipv6-end-requires c κs = search needs
-
--- src/hosts.rt:102:8
-byte-at-requires : tie.Need-byte-at-requires
-byte-at-requires c κs = search needs
-
--- src/hosts.rt:103:24
 add-no-host : tie.Need-add-no-host
 add-no-host c = let h = end-inside (c .before .before) in search needs
 
--- src/hosts.rt:103:9
-no-host-requires : tie.Need-no-host-requires
-no-host-requires c κs = search needs
-
--- src/hosts.rt:103:9
 returns : tie.Need-returns
 returns c = rw (c .no-host .ensures) (brackets-open (c .before .before .before .before .before .args .text .now) (c .before .before .before .ipv6-end .ensures) (λ e. c .before .if1 .taken (c .before .before .byte-at .ensures ∙ e)))
 
--- src/hosts.rt:105:16
 slice-aggregate-is-ipv6 : tie.Need-slice-aggregate-is-ipv6
 slice-aggregate-is-ipv6 c = sym (part-long (c .before .before .before))
 
--- src/hosts.rt:105:28
-slice-aggregate-is-ipv6-2 : tie.Need-slice-aggregate-is-ipv6-2
-slice-aggregate-is-ipv6-2 c = search needs
-
--- src/hosts.rt:105:8
 is-ipv6-requires : tie.Need-is-ipv6-requires
 is-ipv6-requires c κs = let h = end-inside (c .before .before .before .before) in rw (part-long (c .before .before .before .before)) (omega arith)
 
--- src/hosts.rt:106:26
 add-byte-at : tie.Need-add-byte-at
 add-byte-at c = let h = end-inside (c .before .before .before .before .before .before) in search needs
 
--- src/hosts.rt:106:12
-byte-at-requires-2 : tie.Need-byte-at-requires-2
-byte-at-requires-2 c κs = search needs
-
--- src/hosts.rt:109:23
 add-t15 : tie.Need-add-t15
 add-t15 c = let h = end-inside (c .before .before .before .before .before .before .before .before) in search needs
 
--- src/hosts.rt:107:13
 returns-2 : tie.Need-returns-2
 returns-2 c = brackets-whole (c .before .before .before .before .before .before .before .before .before .before .args .text .now) (c .before .before .before .before .before .before .before .before .ipv6-end .ensures) (sym (c .before .before .before .before .before .before .before .byte-at .ensures) ∙ c .before .before .before .before .before .before .if1 .left) (sym (c .before .before .before .is-ipv6 .ensures) ∙ c .before .before .if2 .taken) (sym (c .before .byte-at2 .ensures) ∙ c .if3 .taken)
 
--- src/hosts.rt:114:24
 add-no-host-2 : tie.Need-add-no-host-2
 add-no-host-2 c = let h = end-inside (c .before .before .before .before .before .before .before .before) in search needs
 
--- src/hosts.rt:114:9
-no-host-requires-2 : tie.Need-no-host-requires-2
-no-host-requires-2 c κs = search needs
-
--- src/hosts.rt:114:9
 returns-3 : tie.Need-returns-3
 returns-3 c = rw (c .no-host2 .ensures) (brackets-alone (c .before .before .before .before .before .before .before .before .before .before .before .args .text .now) (c .before .before .before .before .before .before .before .before .before .ipv6-end .ensures) (sym (c .before .before .before .before .before .before .before .before .byte-at .ensures) ∙ c .before .before .before .before .before .before .before .if1 .left) (sym (c .before .before .before .before .is-ipv6 .ensures) ∙ c .before .before .before .if2 .taken) (λ e. c .before .if3 .left (c .before .before .byte-at2 .ensures ∙ e)))
 
--- src/hosts.rt:116:13
 add-no-host-3 : tie.Need-add-no-host-3
 add-no-host-3 c = let h = end-inside (c .before .before .before .before .before .before) in search needs
 
--- src/hosts.rt:116:5
-no-host-requires-3 : tie.Need-no-host-requires-3
-no-host-requires-3 c κs = search needs
-
--- src/hosts.rt:98:1
 returns-4 : tie.Need-returns-4
 returns-4 c = rw (c .no-host3 .ensures) (brackets-other (c .before .before .before .before .before .before .before .before .before .args .text .now) (c .before .before .before .before .before .before .before .ipv6-end .ensures) (sym (c .before .before .is-ipv6 .ensures) ∙ c .before .if2 .left))
 
@@ -97,21 +52,21 @@ pub read-brackets-spec : {M : Type 1} → statement M
 read-brackets-spec =
     tie.close
     (tie.spec
-    ipv6-end-requires
-    byte-at-requires
+    (λ c κs. search needs)
+    (λ c κs. search needs)
     add-no-host
-    no-host-requires
+    (λ c κs. search needs)
     returns
     slice-aggregate-is-ipv6
-    slice-aggregate-is-ipv6-2
+    (λ c. search needs)
     is-ipv6-requires
     add-byte-at
-    byte-at-requires-2
+    (λ c κs. search needs)
     add-t15
     returns-2
     add-no-host-2
-    no-host-requires-2
+    (λ c κs. search needs)
     returns-3
     add-no-host-3
-    no-host-requires-3
+    (λ c κs. search needs)
     returns-4)

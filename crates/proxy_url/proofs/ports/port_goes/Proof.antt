@@ -3,31 +3,21 @@ use Rattle.proxy_url_spec.specs.Reading.{portGoes}
 use borrow.Author.Needs.{needs}
 use Rattle.proxy_url.proofs.ports.port_goes.Statement.{statement}
 use Rattle.proxy_url.proofs.ports.port_goes.Tie as tie
-use Rattle.proxy_url.proofs.ports.port_goes.Reads as reads
-use Rattle.proxy_url.proofs.ports.port_goes.Lts as lts
 
--- src/ports.rt:21:9
 returns : tie.Need-returns
 unfolding portGoes
 returns c = simp (le-ltb _ _ (c .if1 .taken))
 
--- src/ports.rt:24:9
 returns-2 : tie.Need-returns-2
 unfolding portGoes
 returns-2 c = simp (lt-ltb _ _ (c .before .if1 .left), eq-eqb _ _ (c .if2 .taken))
 
--- src/ports.rt:26:5
-mul-result : tie.Need-mul-result
-mul-result c = search needs
-
--- src/ports.rt:26:5
-add-result : tie.Need-add-result
-add-result c = search needs
-
--- src/ports.rt:16:1
 returns-3 : tie.Need-returns-3
 unfolding portGoes
 returns-3 c = simp (lt-ltb _ _ (c .before .if1 .left), ne-eqb _ _ (c .if2 .left))
 
 pub port-goes-spec : {M : Type 1} → statement M
-port-goes-spec = tie.close (tie.spec returns returns-2 mul-result add-result returns-3)
+port-goes-spec = tie.close (tie.spec returns returns-2
+    (λ c. search needs)
+    (λ c. search needs)
+    returns-3)

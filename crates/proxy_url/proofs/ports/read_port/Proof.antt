@@ -16,19 +16,15 @@ Inv-loop text value₀ n₀ value n = (value ≤ 65535) × ((n ≡ 0 → value �
 abbrev μ-loop : tie.MeasureT-loop
 μ-loop text value₀ n₀ value n = length text - n
 
--- src/ports.rt:34:5
 loop-holds : tie.Need-loop-holds Inv-loop μ-loop
 loop-holds c = (search needs, (λ q. refl, (search needs, refl)))
 
--- src/ports.rt:35:31
 shared-slice-read-hex-value : tie.Need-shared-slice-read-hex-value Inv-loop μ-loop
 shared-slice-read-hex-value c = search needs
 
--- src/ports.rt:35:13
 hex-value-requires : tie.Need-hex-value-requires Inv-loop μ-loop
 hex-value-requires c κs = search needs
 
--- src/ports.rt:36:12
 port-goes-requires : tie.Need-port-goes-requires Inv-loop μ-loop
 port-goes-requires c κs = search needs
 
@@ -38,41 +34,33 @@ fits : (c : tie.Then1 Inv-loop μ-loop) →
     (c .before .before .hex-value .result < 10) × (l .value * 10 + c .before .before .hex-value .result ≤ 65535)
 fits c = let l = c .before .before .before .before .before .loop in goes-fits (l .value) (l .n) (c .before .before .hex-value .result) (sym (c .before .port-goes .ensures) ∙ c .if1 .taken)
 
--- src/ports.rt:37:21
 mul-value : tie.Need-mul-value Inv-loop μ-loop
 mul-value c = search needs
 
--- src/ports.rt:37:21
 add-value : tie.Need-add-value Inv-loop μ-loop
 add-value c = omega (arith, fits c)
 
--- src/ports.rt:38:13
 add-n : tie.Need-add-n Inv-loop μ-loop
 add-n c = search needs
 
--- src/ports.rt:34:5
 loop-less : tie.Need-loop-less Inv-loop μ-loop
 loop-less c = search needs
 
--- src/ports.rt:34:5
 loop-again : tie.Need-loop-again Inv-loop μ-loop
 loop-again c =
     let s = c .before .before .before .before .before .before .before .args .text .now in
     let l = c .before .before .before .before .before .loop in
     (fits c .1, (λ q. absurd (omega arith), (search needs, digit-goes s (l .value) (l .n) (c .before .before .before .before .loop-test .taken) (l .inv .1 .1 .1) (c .before .before .hex-value .ensures) (sym (c .before .port-goes .ensures) ∙ c .if1 .taken))))
 
--- src/ports.rt:40:13
 returns : tie.Need-returns Inv-loop μ-loop
 returns c =
     let s = c .before .before .before .before .before .before .before .args .text .now in
     let l = c .before .before .before .before .before .loop in
     port-stops s (digit-stops s (l .value) (l .n) (c .before .before .before .before .loop-test .taken) (l .inv .1 .1 .1) (c .before .before .hex-value .ensures) (sym (c .before .port-goes .ensures) ∙ c .if1 .left)) (c .before .before .before .before .loop-test .taken)
 
--- src/ports.rt:50:15
 cast-t12 : tie.Need-cast-t12 Inv-loop μ-loop
 cast-t12 c = search needs
 
--- src/ports.rt:29:1
 returns-2 : tie.Need-returns-2 Inv-loop μ-loop
 returns-2 c =
     let s = c .before .before .before .args .text .now in
