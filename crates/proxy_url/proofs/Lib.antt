@@ -1,2 +1,6 @@
+pub mod Readers
+pub mod Inside
+pub mod Parts
+pub mod Lines
 pub mod Promise
 pub mod Claims
