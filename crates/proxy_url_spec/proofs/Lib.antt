@@ -1,3 +1,5 @@
+pub mod Ipv6Extent
+pub mod Ipv6Beginnings
 pub mod Readers
 pub mod Fields
 pub mod Schemes

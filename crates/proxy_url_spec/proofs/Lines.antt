@@ -10,7 +10,7 @@ use lib.Seq.{getD-append-seam}
 use Rattle.protocol.specs.declared.Version.{Version}
 use Rattle.protocol.specs.declared.Version.the-variants.{V4, V5}
 use Rattle.protocol.specs.AddressText.{Decimal, digit, upper, lower}
-use Rattle.ipv6_beginnings.proofs.Extent.{All, all-append, all-at, Byte, hex, colon, dot, ipv6-bytes}
+use Rattle.proxy_url_spec.proofs.Ipv6Extent.{All, all-append, all-at, Byte, hex, colon, dot, ipv6-bytes}
 use Rattle.proxy_url_spec.specs.Grammar as G
 use Rattle.proxy_url_spec.specs.Grammar.{Scheme, Credential, HostBytes, Host, ipv6, bytes, Port, Value, Line, without-credentials, with-credentials}
 use Rattle.proxy_url_spec.specs.Reading.{seq, always, Rest, plainRest, hostOf, portOf, plainOf, credentialOf, credentialRest, withOf, restOf, restBy, valueBy, schemeOf, lineOf, unreserved, hostByte}

@@ -15,9 +15,9 @@ use Rattle.protocol.specs.Bytes.{byte}
 use Rattle.protocol.specs.AddressText.{Ipv6}
 use Rattle.protocol.specs.AddressReading.{ipv6Of, startsGap, joinOf, rightOf}
 use Rattle.protocol.proofs.AddressIpv6.{ipv6-sound, ipv6-complete}
-use Rattle.ipv6_beginnings.specs.Endings.{endings}
-use Rattle.ipv6_beginnings.proofs.Extent.{ipv6-long, ipv6-no-bracket}
-use Rattle.ipv6_beginnings.proofs.Beginnings.{stops-by}
+use Rattle.proxy_url_spec.specs.Ipv6Endings.{endings}
+use Rattle.proxy_url_spec.proofs.Ipv6Extent.{ipv6-long, ipv6-no-bracket}
+use Rattle.proxy_url_spec.proofs.Ipv6Beginnings.{stops-by}
 use Rattle.proxy_url_spec.specs.Reading.{reads, dies, isSome, ipv6By, ipv6GoesOn, along, ipv6End, ipv6TextOf}
 use Rattle.proxy_url_spec.proofs.Readers.{Any, Found, Alive, Inhabited, Law, reads-not-dies}
 

@@ -1,4 +1,4 @@
--- F-9: the endings that complete a beginning of IPv6 text.
+-- F-9 in a handy form, not to be believed: the endings that complete a beginning of IPv6 text.
 use Prim.Native.Nat.{ℕ}
 use mathlib.Core.List.{List, [], _∷_}
 
