@@ -1,11 +1,12 @@
 -- What F-9's promise comes to. Each of its fields is used here.
-use Prim.Native.Nat.{ℕ, suc, _<_}
+use Prim.Native.Nat.{ℕ, suc, _≤_, _<_}
 use native.Mathlib.Omega.{arith}
 use mathlib.Core.Path.{_≡_, refl, ap}
 use mathlib.Core.Logic.{_↔_, inl}
+use mathlib.Core.Bool.{false}
 use mathlib.Core.List.{List}
 use lib.Dec.{lit<}
-use lib.ListN.{length, take, drop}
+use lib.ListN.{length, take, drop, replicate}
 use Rattle.protocol.specs.declared.Answer.the-variants.{Accepted}
 use Rattle.protocol.specs.Numbers.{answerNumber}
 use Rattle.proxy_url_spec.specs.Grammar.{Value, Line}
@@ -58,6 +59,17 @@ module _ (line : List ℕ) (r : ProxyLine) (p : ReadsLine line r) where
 
   pub place-0 : r .answer ≡ Accepted → r .place ≡ 0
   place-0 q = p .no-place q
+
+  -- without credentials both arrays are zeros
+  pub no-credentials : r .«proxy_auth» ≡ false → (r .user ≡ replicate 255 0) × (r .password ≡ replicate 255 0)
+  no-credentials q =
+      let f = p .filled in
+      let (u, w) = f .none-given q in
+      (rw u at (f .user-rest), rw w at (f .password-rest))
+
+  -- an accepted line's user has at most 255 bytes, and so has its password
+  pub few : (r .«user_len» ≤ 255) × (r .«password_len» ≤ 255)
+  few = (p .filled .user-few, p .filled .password-few)
 
 -- for every line
 pub value-told : (line : List ℕ) (v : Value) → Line line v → told line (readOf line) ≡ v

@@ -1,5 +1,5 @@
 -- F-9's promise: a line is accepted with a value exactly if the grammar has it with that value; otherwise the answer is 24, with its place.
-use Prim.Native.Nat.{ℕ}
+use Prim.Native.Nat.{ℕ, _-_, _≤_}
 use mathlib.Core.Path.{_≡_}
 use mathlib.Core.Logic.{_↔_}
 use mathlib.Core.Bool.{Bool, true, false}
@@ -48,6 +48,14 @@ pub record Empty (r : ProxyLine) : Type 0 where
   pub host-len : r .«host_len» ≡ 0
   pub port : r .port ≡ 0
 
+-- behind user and password their arrays have zeros, and both are empty where none are given
+pub record Filled (r : ProxyLine) : Type 0 where
+  pub user-few : r .«user_len» ≤ 255
+  pub user-rest : drop (r .«user_len») (r .user) ≡ replicate (255 - r .«user_len») 0
+  pub password-few : r .«password_len» ≤ 255
+  pub password-rest : drop (r .«password_len») (r .password) ≡ replicate (255 - r .«password_len») 0
+  pub none-given : r .«proxy_auth» ≡ false → (r .«user_len» ≡ 0) × (r .«password_len» ≡ 0)
+
 pub record ReadsLine (line : List ℕ) (r : ProxyLine) : Type 0 where
   -- 24 exactly if the grammar has not this line
   pub answers : Answers (answerNumber (r .answer)) ((Unlawful line ↣ 24) ∷ [])
@@ -58,9 +66,10 @@ pub record ReadsLine (line : List ℕ) (r : ProxyLine) : Type 0 where
   -- the place of 24 is the length of the longest beginning that goes on, and there is just one
   pub place-is : Unlawful line → Place line (r .place)
   pub place-once : (m n : ℕ) → Place line m → Place line n → m ≡ n
-  -- nothing is told beside it, and no place beside a value
+  -- nothing is told beside it, no place beside a value, and nothing behind user and password
   pub empty : Unlawful line → Empty r
   pub no-place : r .answer ≡ Accepted → r .place ≡ 0
+  pub filled : Filled r
 
 -- for every line
 abbrev pub ReadsEach : Type 0
