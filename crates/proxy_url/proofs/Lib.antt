@@ -1,4 +1,5 @@
 pub mod Readers
 pub mod Inside
+pub mod Told
 pub mod Parts
 pub mod Lines
