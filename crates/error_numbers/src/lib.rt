@@ -42,6 +42,9 @@ fn numbers_of(error: SocksError) -> Numbers
         SocksError::RouteLength => alone(21),
         SocksError::OutOfOrder => alone(22),
         SocksError::AnnouncesName => alone(23),
+        SocksError::BadLine => alone(24),
+        SocksError::CaptureCut => alone(25),
+        SocksError::CaptureNotAccepted => alone(26),
         SocksError::ShortStream => alone(27),
     }
 }

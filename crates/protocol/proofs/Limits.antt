@@ -19,7 +19,7 @@ use Rattle.protocol.specs.declared.Verdict.the-variants.{Good, Bad}
 use Rattle.protocol.specs.declared.Decision.{Decision}
 use Rattle.protocol.specs.declared.Decision.the-variants.{Undecided, Decided}
 use Rattle.protocol.specs.declared.SocksError.{SocksError}
-use Rattle.protocol.specs.declared.SocksError.the-variants.{ShortOutput, MissingHost, HostByte, MissingPort, CredentialTooLong, HostTooLong, IpV6, DnsFailure, UnexpectedEof, Parsing, Unsupported, MethodMismatch, Failed, Command, Settled, NotOpen, ShortText, Malformed, WrongCredentials, RouteLength, OutOfOrder, AnnouncesName, ShortStream}
+use Rattle.protocol.specs.declared.SocksError.the-variants.{ShortOutput, MissingHost, HostByte, MissingPort, CredentialTooLong, HostTooLong, IpV6, DnsFailure, UnexpectedEof, Parsing, Unsupported, MethodMismatch, Failed, Command, Settled, NotOpen, ShortText, Malformed, WrongCredentials, RouteLength, OutOfOrder, AnnouncesName, BadLine, CaptureCut, CaptureNotAccepted, ShortStream}
 use Rattle.protocol.specs.declared.Answer.{Answer}
 use Rattle.protocol.specs.declared.Answer.the-variants.{Accepted, Refused}
 use Rattle.protocol.specs.declared.Outcome.{Outcome}
@@ -229,6 +229,9 @@ number-is WrongCredentials = (lit< tt, λ q. omega arith)
 number-is RouteLength = (lit< tt, λ q. omega arith)
 number-is OutOfOrder = (lit< tt, λ q. omega arith)
 number-is AnnouncesName = (lit< tt, λ q. omega arith)
+number-is BadLine = (lit< tt, λ q. omega arith)
+number-is CaptureCut = (lit< tt, λ q. omega arith)
+number-is CaptureNotAccepted = (lit< tt, λ q. omega arith)
 number-is ShortStream = (lit< tt, λ q. omega arith)
 
 -- so 0 says that a call was accepted

@@ -6,7 +6,7 @@ use Rattle.protocol.specs.declared.Outcome.{Outcome}
 use Rattle.protocol.specs.declared.Outcome.the-variants as Out
 use Rattle.protocol.specs.declared.Outcome.the-variants.{Waiting, Open}
 use Rattle.protocol.specs.declared.SocksError.{SocksError}
-use Rattle.protocol.specs.declared.SocksError.the-variants.{ShortOutput, MissingHost, HostByte, MissingPort, CredentialTooLong, HostTooLong, IpV6, DnsFailure, UnexpectedEof, Parsing, Unsupported, MethodMismatch, Failed, Command, Settled, NotOpen, ShortText, Malformed, WrongCredentials, RouteLength, OutOfOrder, AnnouncesName, ShortStream}
+use Rattle.protocol.specs.declared.SocksError.the-variants.{ShortOutput, MissingHost, HostByte, MissingPort, CredentialTooLong, HostTooLong, IpV6, DnsFailure, UnexpectedEof, Parsing, Unsupported, MethodMismatch, Failed, Command, Settled, NotOpen, ShortText, Malformed, WrongCredentials, RouteLength, OutOfOrder, AnnouncesName, BadLine, CaptureCut, CaptureNotAccepted, ShortStream}
 
 -- number and status; the status is 0 except with 15
 abbrev pub numbers : SocksError → ℕ × ℕ
@@ -32,6 +32,9 @@ numbers WrongCredentials = (20, 0)
 numbers RouteLength = (21, 0)
 numbers OutOfOrder = (22, 0)
 numbers AnnouncesName = (23, 0)
+numbers BadLine = (24, 0)
+numbers CaptureCut = (25, 0)
+numbers CaptureNotAccepted = (26, 0)
 numbers ShortStream = (27, 0)
 
 abbrev pub number : SocksError → ℕ

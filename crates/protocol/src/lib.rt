@@ -126,6 +126,9 @@ pub enum SocksError {
     RouteLength,
     OutOfOrder,
     AnnouncesName,
+    BadLine,
+    CaptureCut,
+    CaptureNotAccepted,
     ShortStream,
 }
 

@@ -3,3 +3,5 @@ pub mod Inside
 pub mod Told
 pub mod Parts
 pub mod Lines
+pub mod Promise
+pub mod Claims

@@ -3,7 +3,7 @@ use Prim.Native.Nat.{ℕ}
 use mathlib.Core.Bool.{false}
 use mathlib.Core.List.{List}
 use lib.ListN.{length}
-use Rattle.protocol.specs.declared.SocksError.the-variants.{Malformed}
+use Rattle.protocol.specs.declared.SocksError.the-variants.{BadLine}
 use Rattle.protocol.specs.declared.Answer.{Answer}
 use Rattle.protocol.specs.declared.Answer.the-variants.{Accepted, Refused}
 use Rattle.protocol.specs.declared.Version.the-variants.{V4}
@@ -14,7 +14,7 @@ use Rattle.proxy_url.specs.declared.ProxyLine.{ProxyLine}
 use Rattle.proxy_url.specs.Coded.{zeros, isGiven, userOf, passwordOf}
 
 abbrev pub badLine : Answer
-badLine = Refused Malformed
+badLine = Refused BadLine
 
 -- 24 and its place, beside which all else is empty
 abbrev pub refusedAt : ℕ → ProxyLine

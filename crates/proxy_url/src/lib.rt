@@ -46,7 +46,7 @@ fn refused(place: usize) -> ProxyLine
     ensures { λ r. ⌜ r ≡ refusedAt place ⌝ }
 {
     ProxyLine {
-        answer: Answer::Refused(SocksError::Malformed),
+        answer: Answer::Refused(SocksError::BadLine),
         place,
         version: Version::V4,
         local_dns: false,

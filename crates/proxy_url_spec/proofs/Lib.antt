@@ -1,1 +1,10 @@
 pub mod Readers
+pub mod Fields
+pub mod Schemes
+pub mod Credentials
+pub mod Ports
+pub mod Texts
+pub mod Hosts
+pub mod Lines
+pub mod Places
+pub mod Examples

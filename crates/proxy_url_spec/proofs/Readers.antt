@@ -1,15 +1,15 @@
 -- F-9's readers: four laws of a field, and that readers made of others keep them.
-use Prim.Native.Nat.{ℕ, zero, suc, _+_, _≤_, _<_, max}
+use Prim.Native.Nat.{ℕ, _+_, _≤_, _<_, max}
 use native.Mathlib.Omega.{arith}
 use mathlib.Core.Path.{_≡_, refl, sym, ap, subst, _∙_}
 use mathlib.Core.Logic.{_⊎_, inl, inr}
-use mathlib.Core.Bool.{Bool, true, false, cond}
-use mathlib.Core.List.{List, [], _∷_, _++_, append-assoc, append-nil}
+use mathlib.Core.Bool.{Bool, true, false}
+use mathlib.Core.List.{List, [], _++_, append-assoc}
 use lib.ListN.{length, take, drop, length-append, length-drop, take-append-drop}
 use lib.Seq.{take-at, drop-at, drop-append-le, take-append-le}
 use lib.Dec.{leb}
 use borrow.Author.Tests.{leb-true, leb-false}
-use Rattle.proxy_url_spec.specs.Reading.{Read, reads, dies, Reader, mapped, map, behind, onward, seq, later, either, or}
+use Rattle.proxy_url_spec.specs.Reading.{Read, reads, dies, Reader, mapped, map, behind, onward, seq, either, or}
 
 -- what stands behind a word: anything, or nothing
 abbrev pub Any : List ℕ → Type 0
@@ -59,6 +59,21 @@ module _ {A : Type 0} where
   pub one-value : {Ok : List ℕ → Type 0} {W : List ℕ → A → Type 0} {F : Reader A} → Law Ok W F → {s : List ℕ} {u v : A} → Ok [] → W s u → W s v → u ≡ v
   one-value l {s} {u} {v} o x y = let e = l .complete s [] u x o in let f = l .complete s [] v y o in cc
 
+  -- a place is within the text
+  pub reads-within : {Ok : List ℕ → Type 0} {W : List ℕ → A → Type 0} {F : Reader A} → Law Ok W F → {s : List ℕ} {v : A} {n : ℕ} → F s ≡ reads v n → n ≤ length s
+  reads-within l {s} {v} {n} e =
+      let x = l .sound s v n e in
+      let h = x .long in
+      let k = ap length (x .split) ∙ length-append (x .w) (x .t) in
+      omega arith
+
+  pub dies-within : {Ok : List ℕ → Type 0} {W : List ℕ → A → Type 0} {F : Reader A} → Law Ok W F → {s : List ℕ} {n : ℕ} → F s ≡ dies n → n ≤ length s
+  dies-within l {s} {n} e =
+      let x = l .alive s n e in
+      let h = x .long in
+      let k = ap length (x .split) ∙ length-append (x .p) (x .r) in
+      omega arith
+
   -- by words that are the same
   pub law-as : {Ok : List ℕ → Type 0} {W X : List ℕ → A → Type 0} {F : Reader A} → ((w : List ℕ) (v : A) → W w v → X w v) → ((w : List ℕ) (v : A) → X w v → W w v)
       → Law Ok W F → Law Ok X F
@@ -76,6 +91,9 @@ pub record Image {A B : Type 0} (f : A → B) (W : List ℕ → A → Type 0) (w
   pub value : A
   pub word : W w value
   pub is : u ≡ f value
+
+pub some-image : {A B : Type 0} (f : A → B) {W : List ℕ → A → Type 0} → Inhabited W → Inhabited (Image f W)
+some-image f x = record { w = x .w; v = f (x .v); word = record { value = x .v; word = x .word; is = refl } }
 
 module _ {A B : Type 0} (f : A → B) (Ok : List ℕ → Type 0) (W : List ℕ → A → Type 0) (F : Reader A) (l : Law Ok W F) where
   map-sound : (s : List ℕ) (u : B) (n : ℕ) (r : Read A) → F s ≡ r → mapped f r ≡ reads u n → Found Ok (Image f W) s u n
@@ -116,6 +134,15 @@ pub record Joined {A B : Type 0} (W : List ℕ → A → Type 0) (X : A → List
   pub long : t .1 ≡ length a
   pub first : W a (t .0)
   pub second : X (t .0) b (t .2)
+
+pub some-joined : {A B : Type 0} {W : List ℕ → A → Type 0} {X : A → List ℕ → B → Type 0} → Inhabited W → ((v : A) → Inhabited (X v)) → Inhabited (Joined W X)
+some-joined x y =
+    let z = y (x .v) in
+    record {
+      w = x .w ++ z .w;
+      v = (x .v, length (x .w), z .v);
+      word = record { a = x .w; b = z .w; split = refl; long = refl; first = x .word; second = z .word };
+    }
 
 module _ {A B : Type 0} (Ok : List ℕ → Type 0) (W : List ℕ → A → Type 0) (F : Reader A) (X : A → List ℕ → B → Type 0) (G : A → Reader B)
     (l : Law Any W F) (k : (v : A) → Law Ok (X v) (G v)) (some : (v : A) → Inhabited (X v)) where

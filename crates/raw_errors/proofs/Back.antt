@@ -1,7 +1,7 @@
 -- Nothing is lost in numbers: an error's number and status mean it.
 use mathlib.Core.Path.{_≡_, refl}
 use Rattle.protocol.specs.declared.SocksError.{SocksError}
-use Rattle.protocol.specs.declared.SocksError.the-variants.{ShortOutput, MissingHost, HostByte, MissingPort, CredentialTooLong, HostTooLong, IpV6, DnsFailure, UnexpectedEof, Parsing, Unsupported, MethodMismatch, Failed, Command, Settled, NotOpen, ShortText, Malformed, WrongCredentials, RouteLength, OutOfOrder, AnnouncesName, ShortStream}
+use Rattle.protocol.specs.declared.SocksError.the-variants.{ShortOutput, MissingHost, HostByte, MissingPort, CredentialTooLong, HostTooLong, IpV6, DnsFailure, UnexpectedEof, Parsing, Unsupported, MethodMismatch, Failed, Command, Settled, NotOpen, ShortText, Malformed, WrongCredentials, RouteLength, OutOfOrder, AnnouncesName, BadLine, CaptureCut, CaptureNotAccepted, ShortStream}
 use Rattle.protocol.specs.Numbers.{number, status}
 use Rattle.raw_errors.specs.Errors.{errorOf, errorAmong}
 
@@ -29,4 +29,7 @@ error-back WrongCredentials = refl
 error-back RouteLength = refl
 error-back OutOfOrder = refl
 error-back AnnouncesName = refl
+error-back BadLine = refl
+error-back CaptureCut = refl
+error-back CaptureNotAccepted = refl
 error-back ShortStream = refl

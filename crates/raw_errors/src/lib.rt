@@ -37,6 +37,15 @@ fn later_error(n: u8, status: u8) -> SocksError
     if n == 23 {
         return SocksError::AnnouncesName;
     }
+    if n == 24 {
+        return SocksError::BadLine;
+    }
+    if n == 25 {
+        return SocksError::CaptureCut;
+    }
+    if n == 26 {
+        return SocksError::CaptureNotAccepted;
+    }
     if n == 27 {
         return SocksError::ShortStream;
     }

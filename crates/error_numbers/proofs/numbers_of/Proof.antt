@@ -71,6 +71,15 @@ returns-22 c = rw (c .before .enum-told21 .given .1) (c .alone21 .ensures)
 returns-23 : tie.Need-returns-23
 returns-23 c = rw (c .before .enum-told22 .given .1) (c .alone22 .ensures)
 
+returns-24 : tie.Need-returns-24
+returns-24 c = rw (c .before .enum-told23 .given .1) (c .alone23 .ensures)
+
+returns-25 : tie.Need-returns-25
+returns-25 c = rw (c .before .enum-told24 .given .1) (c .alone24 .ensures)
+
+returns-26 : tie.Need-returns-26
+returns-26 c = rw (c .before .enum-told25 .given .1) (c .alone25 .ensures)
+
 pub numbers-of-spec : {M : Type 1} → statement M
 numbers-of-spec =
     tie.close
@@ -120,6 +129,12 @@ numbers-of-spec =
     (λ c κs. search needs)
     (λ c. search needs)
     (λ c κs. search needs)
+    (λ c. search needs)
+    (λ c κs. search needs)
+    (λ c. search needs)
+    (λ c κs. search needs)
+    (λ c. search needs)
+    (λ c κs. search needs)
     returns
     returns-2
     returns-3
@@ -142,4 +157,7 @@ numbers-of-spec =
     returns-20
     returns-21
     returns-22
-    returns-23)
+    returns-23
+    returns-24
+    returns-25
+    returns-26)

@@ -49,7 +49,19 @@ returns-11 c = simp (ne-eqb _ _ (c .before .before .before .before .before .befo
 
 returns-12 : tie.Need-returns-12
 unfolding laterError errorAmong
-returns-12 c = simp (ne-eqb _ _ (c .before .before .before .before .before .before .before .before .before .before .if1 .left), ne-eqb _ _ (c .before .before .before .before .before .before .before .before .before .if2 .left), ne-eqb _ _ (c .before .before .before .before .before .before .before .before .if3 .left), ne-eqb _ _ (c .before .before .before .before .before .before .before .if4 .left), ne-eqb _ _ (c .before .before .before .before .before .before .if5 .left), ne-eqb _ _ (c .before .before .before .before .before .if6 .left), ne-eqb _ _ (c .before .before .before .before .if7 .left), ne-eqb _ _ (c .before .before .before .if8 .left), ne-eqb _ _ (c .before .before .if9 .left), ne-eqb _ _ (c .before .if10 .left), ne-eqb _ _ (c .if11 .left))
+returns-12 c = simp (ne-eqb _ _ (c .before .before .before .before .before .before .before .before .before .before .before .if1 .left), ne-eqb _ _ (c .before .before .before .before .before .before .before .before .before .before .if2 .left), ne-eqb _ _ (c .before .before .before .before .before .before .before .before .before .if3 .left), ne-eqb _ _ (c .before .before .before .before .before .before .before .before .if4 .left), ne-eqb _ _ (c .before .before .before .before .before .before .before .if5 .left), ne-eqb _ _ (c .before .before .before .before .before .before .if6 .left), ne-eqb _ _ (c .before .before .before .before .before .if7 .left), ne-eqb _ _ (c .before .before .before .before .if8 .left), ne-eqb _ _ (c .before .before .before .if9 .left), ne-eqb _ _ (c .before .before .if10 .left), ne-eqb _ _ (c .before .if11 .left), eq-eqb _ _ (c .if12 .taken))
+
+returns-13 : tie.Need-returns-13
+unfolding laterError errorAmong
+returns-13 c = simp (ne-eqb _ _ (c .before .before .before .before .before .before .before .before .before .before .before .before .if1 .left), ne-eqb _ _ (c .before .before .before .before .before .before .before .before .before .before .before .if2 .left), ne-eqb _ _ (c .before .before .before .before .before .before .before .before .before .before .if3 .left), ne-eqb _ _ (c .before .before .before .before .before .before .before .before .before .if4 .left), ne-eqb _ _ (c .before .before .before .before .before .before .before .before .if5 .left), ne-eqb _ _ (c .before .before .before .before .before .before .before .if6 .left), ne-eqb _ _ (c .before .before .before .before .before .before .if7 .left), ne-eqb _ _ (c .before .before .before .before .before .if8 .left), ne-eqb _ _ (c .before .before .before .before .if9 .left), ne-eqb _ _ (c .before .before .before .if10 .left), ne-eqb _ _ (c .before .before .if11 .left), ne-eqb _ _ (c .before .if12 .left), eq-eqb _ _ (c .if13 .taken))
+
+returns-14 : tie.Need-returns-14
+unfolding laterError errorAmong
+returns-14 c = simp (ne-eqb _ _ (c .before .before .before .before .before .before .before .before .before .before .before .before .before .if1 .left), ne-eqb _ _ (c .before .before .before .before .before .before .before .before .before .before .before .before .if2 .left), ne-eqb _ _ (c .before .before .before .before .before .before .before .before .before .before .before .if3 .left), ne-eqb _ _ (c .before .before .before .before .before .before .before .before .before .before .if4 .left), ne-eqb _ _ (c .before .before .before .before .before .before .before .before .before .if5 .left), ne-eqb _ _ (c .before .before .before .before .before .before .before .before .if6 .left), ne-eqb _ _ (c .before .before .before .before .before .before .before .if7 .left), ne-eqb _ _ (c .before .before .before .before .before .before .if8 .left), ne-eqb _ _ (c .before .before .before .before .before .if9 .left), ne-eqb _ _ (c .before .before .before .before .if10 .left), ne-eqb _ _ (c .before .before .before .if11 .left), ne-eqb _ _ (c .before .before .if12 .left), ne-eqb _ _ (c .before .if13 .left), eq-eqb _ _ (c .if14 .taken))
+
+returns-15 : tie.Need-returns-15
+unfolding laterError errorAmong
+returns-15 c = simp (ne-eqb _ _ (c .before .before .before .before .before .before .before .before .before .before .before .before .before .if1 .left), ne-eqb _ _ (c .before .before .before .before .before .before .before .before .before .before .before .before .if2 .left), ne-eqb _ _ (c .before .before .before .before .before .before .before .before .before .before .before .if3 .left), ne-eqb _ _ (c .before .before .before .before .before .before .before .before .before .before .if4 .left), ne-eqb _ _ (c .before .before .before .before .before .before .before .before .before .if5 .left), ne-eqb _ _ (c .before .before .before .before .before .before .before .before .if6 .left), ne-eqb _ _ (c .before .before .before .before .before .before .before .if7 .left), ne-eqb _ _ (c .before .before .before .before .before .before .if8 .left), ne-eqb _ _ (c .before .before .before .before .before .if9 .left), ne-eqb _ _ (c .before .before .before .before .if10 .left), ne-eqb _ _ (c .before .before .before .if11 .left), ne-eqb _ _ (c .before .before .if12 .left), ne-eqb _ _ (c .before .if13 .left), ne-eqb _ _ (c .if14 .left))
 
 pub later-error-spec : {M : Type 1} → statement M
 later-error-spec =
@@ -66,4 +78,7 @@ later-error-spec =
     returns-9
     returns-10
     returns-11
-    returns-12)
+    returns-12
+    returns-13
+    returns-14
+    returns-15)

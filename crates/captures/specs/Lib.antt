@@ -1,0 +1,5 @@
+pub mod Walk
+pub mod Calls
+pub mod Judges
+pub mod Own
+pub mod Coded
