@@ -12,7 +12,7 @@ use Rattle.proxy_url.specs.declared.schemes.SchemeRead.{SchemeRead}
 use Rattle.proxy_url.specs.declared.rests.RestRead.{RestRead}
 use Rattle.proxy_url.specs.Coded.{schemeCoded, restCoded}
 use Rattle.proxy_url.specs.Calls.{refusedAt, readOf}
-use Rattle.proxy_url.proofs.Readers.{is-read, is-dead}
+use Rattle.proxy_url.proofs.Told.{scheme-told, rest-told}
 use Rattle.proxy_url.proofs.Inside.{Inside, inside-word, inside-or, told-inside}
 use Rattle.proxy_url.proofs.Parts.{from}
 use Rattle.proxy_url.proofs.rests.Laws.{rest-inside}
@@ -29,7 +29,7 @@ module _ (line : List ℕ) {a : SchemeRead} (e : a ≡ schemeCoded (schemeOf lin
 
   pub scheme-stuck : a .found ≡ false → refusedAt (a .next) ≡ readOf line
   unfolding readOf lineOf map seq
-  scheme-stuck f = let (n, q) = is-dead schemeCoded (λ y. y .found) (λ v n. refl) (λ n. refl) (schemeOf line) e f in rw (e, q)
+  scheme-stuck f = let (n, q) = scheme-told .is-dead (schemeOf line) e f in rw (e, q)
 
   module _ {r : RestRead} (d : r ≡ restCoded (restOf (a .version) (from line (a .next)))) where
     pub line-inside : (r .at ≤ r .next) × (a .next + r .next ≤ length line)
@@ -43,16 +43,16 @@ module _ (line : List ℕ) {a : SchemeRead} (e : a ≡ schemeCoded (schemeOf lin
       pub rest-stuck : r .found ≡ false → refusedAt (a .next + r .next) ≡ readOf line
       unfolding readOf lineOf map seq
       rest-stuck g =
-          let (v, n, q) = is-read schemeCoded (λ y. y .found) (λ v n. refl) (λ n. refl) (schemeOf line) e f in
+          let (v, n, q) = scheme-told .is-read (schemeOf line) e f in
           let b : r ≡ restCoded (restOf (v .0) (drop n line)) = rw (part-from line (a .next), e, q) at d in
-          let (m, k) = is-dead restCoded (λ y. y .found) (λ v n. refl) (λ n. refl) (restOf (v .0) (drop n line)) b g in
+          let (m, k) = rest-told .is-dead (restOf (v .0) (drop n line)) b g in
           rw (e, q, b, k)
 
       pub line-whole : r .found ≡ true
           → record { answer = Accepted; place = 0; version = a .version; «local_dns» = a .local; «proxy_auth» = r .auth; user = r .user; «user_len» = r .«user_len»; password = r .password; «password_len» = r .«password_len»; «host_at» = a .next + r .at; «host_len» = r .len; port = r .port } ≡ readOf line
       unfolding readOf lineOf map seq
       line-whole g =
-          let (v, n, q) = is-read schemeCoded (λ y. y .found) (λ v n. refl) (λ n. refl) (schemeOf line) e f in
+          let (v, n, q) = scheme-told .is-read (schemeOf line) e f in
           let b : r ≡ restCoded (restOf (v .0) (drop n line)) = rw (part-from line (a .next), e, q) at d in
-          let (u, m, k) = is-read restCoded (λ y. y .found) (λ v n. refl) (λ n. refl) (restOf (v .0) (drop n line)) b g in
+          let (u, m, k) = rest-told .is-read (restOf (v .0) (drop n line)) b g in
           rw (e, q, b, k)

@@ -1,14 +1,19 @@
 -- F-9: how a reader goes on by the first bytes of a text. A byte past the end is 0, which passes no test and is no mark.
 use Prim.Native.Nat.{ℕ, zero, suc, _+_, _<_}
-use native.Mathlib.Nat.{zero-add, add-assoc, max-zero, zero-max}
+use native.Mathlib.Nat.{add-zero, zero-add, add-assoc, max-zero, zero-max}
 use mathlib.Core.Path.{_≡_, refl, sym, ap, _∙_}
-use mathlib.Core.Bool.{Bool, true, false, cond, true≢false}
+use mathlib.Core.Bool.{Bool, true, false, cond}
 use mathlib.Core.List.{List, [], _∷_, _++_, append-assoc}
 use lib.ListN.{length, drop, List·getD-eq-default}
+use lib.Seq.{getD-drop}
 use lib.Dec.{eqb, leb}
 use borrow.Author.Tests.{eq-eqb, ne-eqb, leb-true, leb-false, eqb-true, eqb-false}
 use Rattle.protocol.specs.Bytes.{byte}
 use Rattle.proxy_url_spec.specs.Reading.{Read, reads, dies, Reader, mapped, map, behind, onward, seq, always, either, or, common, word, one, consed, many}
+
+-- the byte behind so many
+pub byte-behind : (s : List ℕ) (n : ℕ) → byte (drop n s) 0 ≡ byte s n
+byte-behind s n = getD-drop n s 0 0 ∙ ap (byte s) (add-zero n)
 
 -- a byte other than 0 stands within the text
 pub byte-inside : (s : List ℕ) (n : ℕ) {m : ℕ} → (m ≡ 0 → ⊥) → byte s n ≡ m → n < length s
@@ -102,14 +107,3 @@ module _ (F : Reader ℕ) (mark : ℕ) (some : mark ≡ 0 → ⊥) (s : List ℕ
 
     pub many-dies : (k : ℕ) {n : ℕ} → F s ≡ dies n → many F mark (suc k) s ≡ dies n
     many-dies k q = many-on k ∙ rw q
-
--- ---- what was read, as a struct tells it
-
-module _ {A R : Type 0} (coded : Read A → R) (found : R → Bool) (yes : (v : A) (n : ℕ) → found (coded (reads v n)) ≡ true) (no : (n : ℕ) → found (coded (dies n)) ≡ false) where
-  pub is-read : (x : Read A) {r : R} → r ≡ coded x → found r ≡ true → (v : A) × (n : ℕ) × (x ≡ reads v n)
-  is-read (reads v n) e q = (v, n, refl)
-  is-read (dies n) e q = absurd (true≢false (sym q ∙ ap found e ∙ no n))
-
-  pub is-dead : (x : Read A) {r : R} → r ≡ coded x → found r ≡ false → (n : ℕ) × (x ≡ dies n)
-  is-dead (reads v n) e q = absurd (true≢false (sym (yes v n) ∙ ap found (sym e) ∙ q))
-  is-dead (dies n) e q = (n, refl)

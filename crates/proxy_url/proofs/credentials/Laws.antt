@@ -16,7 +16,8 @@ use Rattle.proxy_url_spec.specs.Reading.{Read, reads, dies, mapped, map, behind
 use Rattle.proxy_url.specs.declared.credentials.EscapedRead.{EscapedRead}
 use Rattle.proxy_url.specs.declared.credentials.CredentialRead.{CredentialRead}
 use Rattle.proxy_url.specs.Coded.{zeros, escapedCoded, credentialCoded}
-use Rattle.proxy_url.proofs.Readers.{mark-first, one-first, ahead, ahead-none, ahead-more, many-marked, many-full, many-more, many-dies, is-read, is-dead}
+use Rattle.proxy_url.proofs.Readers.{byte-behind, mark-first, one-first, ahead, ahead-none, ahead-more, many-marked, many-full, many-more, many-dies}
+use Rattle.proxy_url.proofs.Told.{escaped-told}
 use Rattle.proxy_url.proofs.Inside.{Inside, inside-word, inside-one, inside-or, inside-map, inside-both, inside-many, told-inside}
 
 -- ---- a byte, as it is or escaped
@@ -90,21 +91,18 @@ goes-first mark text =
     }
 
 module _ {mark : ℕ} (some : mark ≡ 0 → ⊥) {text bytes : List ℕ} {len at : ℕ} (g : Going mark text bytes len at) where
-  here : byte (drop at text) 0 ≡ byte text at
-  here = getD-drop at text 0 0 ∙ ap (λ (k : ℕ). byte text k) (add-zero at)
-
   pub marked : byte text at ≡ mark → record { found = true; next = at + 1; len = len; bytes = bytes } ≡ credentialCoded (credentialOf mark text)
   marked e =
       let l = g .long in
       let f = g .few in
       let n : length (take len bytes) ≡ len = length-take-le len bytes (omega arith) in
-      rw (← g .rest, many-marked escapedOf mark some (drop at text) (255 - len) (here ∙ e), append-nil (take len bytes), n, ← g .unwritten, take-append-drop len bytes)
+      rw (← g .rest, many-marked escapedOf mark some (drop at text) (255 - len) (byte-behind text at ∙ e), append-nil (take len bytes), n, ← g .unwritten, take-append-drop len bytes)
 
   module _ (other : byte text at ≡ mark → ⊥) where
-    pub full : 255 ≤ len → record { found = false; next = at; len = 0; bytes = zeros } ≡ credentialCoded (credentialOf mark text)
+    pub full : 255 ≤ len → credentialOf mark text ≡ dies at
     full h =
         let z : 255 - len ≡ 0 = omega arith in
-        rw (← g .rest, z, many-full escapedOf mark some (drop at text) (λ e. other (sym here ∙ e)), add-zero at)
+        rw (← g .rest, z, many-full escapedOf mark some (drop at text) (λ e. other (sym (byte-behind text at) ∙ e)), add-zero at)
 
     module _ (more : len < 255) {r : EscapedRead} (read : r ≡ escapedCoded (escapedOf (take (length text - at) (drop at text)))) where
       left : 255 - len ≡ suc (255 - (len + 1))
@@ -113,14 +111,14 @@ module _ {mark : ℕ} (some : mark ≡ 0 → ⊥) {text bytes : List ℕ} {len a
       at-place : r ≡ escapedCoded (escapedOf (drop at text))
       at-place = rw (part-from text at) at read
 
-      pub stuck : r .found ≡ false → record { found = false; next = at + r .next; len = 0; bytes = zeros } ≡ credentialCoded (credentialOf mark text)
+      pub stuck : r .found ≡ false → credentialOf mark text ≡ dies (at + r .next)
       stuck q =
-          let (n, e) = is-dead escapedCoded (λ y. y .found) (λ v n. refl) (λ n. refl) (escapedOf (drop at text)) at-place q in
-          rw (at-place, e, ← g .rest, left, many-dies escapedOf mark some (drop at text) (λ z. other (sym here ∙ z)) (255 - (len + 1)) e)
+          let (n, e) = escaped-told .is-dead (escapedOf (drop at text)) at-place q in
+          rw (at-place, e, ← g .rest, left, many-dies escapedOf mark some (drop at text) (λ z. other (sym (byte-behind text at) ∙ z)) (255 - (len + 1)) e)
 
       pub goes-on : r .found ≡ true → Going mark text (set bytes len (r .value)) (len + 1) (at + r .next)
       goes-on q =
-          let (v, n, e) = is-read escapedCoded (λ y. y .found) (λ v n. refl) (λ n. refl) (escapedOf (drop at text)) at-place q in
+          let (v, n, e) = escaped-told .is-read (escapedOf (drop at text)) at-place q in
           let l = g .long in
           let i = g .inside in
           let k : len < length bytes = omega arith in
@@ -133,7 +131,7 @@ module _ {mark : ℕ} (some : mark ≡ 0 → ⊥) {text bytes : List ℕ} {len a
             long = rw length-set l;
             unwritten = rw (drop-set-lt (len + 1) bytes len v (omega arith)) (sym (drop-drop 1 len bytes) ∙ ap (drop 1) (g .unwritten ∙ ap (λ (j : ℕ). replicate {A = ℕ} j 0) left));
             inside = omega arith;
-            rest = rw (w, ← drop-drop n at text, ahead-more, ← many-more escapedOf mark some (drop at text) (λ z. other (sym here ∙ z)) (255 - (len + 1)) e, ← left) (g .rest);
+            rest = rw (w, ← drop-drop n at text, ahead-more, ← many-more escapedOf mark some (drop at text) (λ z. other (sym (byte-behind text at) ∙ z)) (255 - (len + 1)) e, ← left) (g .rest);
           })
 
 pub escaped-inside : (text : List ℕ) (at : ℕ) {r : EscapedRead} → r ≡ escapedCoded (escapedOf (take (length text - at) (drop at text))) → at ≤ length text → at + r .next ≤ length text

@@ -6,12 +6,12 @@ use mathlib.Core.Bool.{true, false}
 use mathlib.Core.List.{List}
 use lib.ListN.{length, take, drop, length-drop}
 use Rattle.buffers.proofs.write.Parts.{part-from}
-use Rattle.proxy_url_spec.specs.Reading.{map, seq, always, hostOf, portOf, plainRest, plainOf}
+use Rattle.proxy_url_spec.specs.Reading.{dies, map, seq, always, hostOf, portOf, plainRest, plainOf}
 use Rattle.proxy_url.specs.declared.hosts.HostRead.{HostRead}
 use Rattle.proxy_url.specs.declared.ports.PortRead.{PortRead}
 use Rattle.proxy_url.specs.declared.endpoints.EndpointRead.{EndpointRead}
 use Rattle.proxy_url.specs.Coded.{hostCoded, portCoded, endpointCoded}
-use Rattle.proxy_url.proofs.Readers.{is-read, is-dead}
+use Rattle.proxy_url.proofs.Told.{host-told, port-told}
 use Rattle.proxy_url.proofs.Inside.{Inside, inside-map, inside-seq, told-inside}
 use Rattle.proxy_url.proofs.hosts.Laws.{inside-host}
 use Rattle.proxy_url.proofs.ports.Laws.{inside-port}
@@ -20,9 +20,9 @@ module _ (s : List ℕ) {h : HostRead} (e : h ≡ hostCoded (hostOf s)) where
   pub host-inside : h .next ≤ length s
   host-inside = told-inside (λ v. v .at) hostCoded (λ y. y .at) (λ y. y .next) (λ v n. (refl, refl)) (λ n. (refl, refl)) (hostOf s) (inside-host s) e .1
 
-  pub host-stuck : h .found ≡ false → record { found = false; next = h .next; at = 0; len = 0; port = 0 } ≡ endpointCoded (plainOf s)
+  pub host-stuck : h .found ≡ false → plainOf s ≡ dies (h .next)
   unfolding plainOf map seq
-  host-stuck f = let (n, q) = is-dead hostCoded (λ y. y .found) (λ v n. refl) (λ n. refl) (hostOf s) e f in rw (e, q)
+  host-stuck f = let (n, q) = host-told .is-dead (hostOf s) e f in rw (e, q)
 
   module _ {p : PortRead} (d : p ≡ portCoded (portOf (take (length s - h .next) (drop (h .next) s)))) where
     behind-host : p ≡ portCoded (portOf (drop (h .next) s))
@@ -36,20 +36,20 @@ module _ (s : List ℕ) {h : HostRead} (e : h ≡ hostCoded (hostOf s)) where
         omega arith
 
     module _ (f : h .found ≡ true) where
-      pub port-stuck : p .found ≡ false → record { found = false; next = h .next + p .next; at = 0; len = 0; port = 0 } ≡ endpointCoded (plainOf s)
+      pub port-stuck : p .found ≡ false → plainOf s ≡ dies (h .next + p .next)
       unfolding plainOf map seq
       port-stuck g =
-          let (v, n, q) = is-read hostCoded (λ y. y .found) (λ v n. refl) (λ n. refl) (hostOf s) e f in
+          let (v, n, q) = host-told .is-read (hostOf s) e f in
           let b : p ≡ portCoded (portOf (drop n s)) = rw (e, q) at behind-host in
-          let (m, k) = is-dead portCoded (λ y. y .found) (λ v n. refl) (λ n. refl) (portOf (drop n s)) b g in
+          let (m, k) = port-told .is-dead (portOf (drop n s)) b g in
           rw (e, q, b, k)
 
       pub endpoint-whole : p .found ≡ true → record { found = true; next = h .next + p .next; at = h .at; len = h .len; port = p .port } ≡ endpointCoded (plainOf s)
       unfolding plainOf map seq
       endpoint-whole g =
-          let (v, n, q) = is-read hostCoded (λ y. y .found) (λ v n. refl) (λ n. refl) (hostOf s) e f in
+          let (v, n, q) = host-told .is-read (hostOf s) e f in
           let b : p ≡ portCoded (portOf (drop n s)) = rw (e, q) at behind-host in
-          let (u, m, k) = is-read portCoded (λ y. y .found) (λ v n. refl) (λ n. refl) (portOf (drop n s)) b g in
+          let (u, m, k) = port-told .is-read (portOf (drop n s)) b g in
           rw (e, q, b, k)
 
 pub inside-plain : Inside (λ r. r .hostAt) plainOf

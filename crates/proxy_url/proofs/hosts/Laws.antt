@@ -8,7 +8,7 @@ use mathlib.Core.Bool.{Bool, true, false, cond, _&&_, and-false, true≢false}
 use mathlib.Core.Option.{Option, none, some}
 use mathlib.Core.List.{List, [], _∷_, _++_}
 use lib.ListN.{length, take, drop, length-append, drop-of-length-le}
-use lib.Seq.{take-at, take-suc, drop-cons, getD-append-seam, getD-drop, length-take-le}
+use lib.Seq.{take-at, take-suc, drop-cons, getD-append-seam, length-take-le}
 use lib.Dec.{leb, eqb, eqb·suc-zero}
 use borrow.Author.Tests.{leb-true, leb-false, eq-eqb, ne-eqb, eqb-true, eqb-false}
 use Rattle.protocol.specs.declared.AddressKind.{AddressKind}
@@ -23,7 +23,7 @@ use Rattle.buffers.proofs.write.Parts.{part-from}
 use Rattle.proxy_url_spec.specs.Reading.{Read, reads, dies, mapped, map, behind, onward, seq, always, or, common, word, one, consed, many, same, markOf, ipv6By, isSome, ipv6GoesOn, along, ipv6End, ipv6TextOf, Hosted, bracketed, bracketsOf, hostByte, named, nameOf, hostOf}
 use Rattle.proxy_url.specs.Coded.{lastly, hostCoded}
 use Rattle.proxy_url.specs.declared.hosts.HostRead.{HostRead}
-use Rattle.proxy_url.proofs.Readers.{byte-inside, mark-first, or-left, or-right, ahead, many-marked, many-full, many-more, many-dies}
+use Rattle.proxy_url.proofs.Readers.{byte-behind, byte-inside, mark-first, or-left, or-right, ahead, many-marked, many-full, many-more, many-dies}
 use Rattle.proxy_url.proofs.Inside.{Inside, bounded-cond, inside-or, inside-word, inside-one, inside-map, inside-seq, inside-both, inside-many}
 
 -- ---- an IPv6 text by an ending
@@ -89,38 +89,27 @@ lastly-snoc test p b =
 pub lastly-byte : (test : ℕ → Bool) (s : List ℕ) (n : ℕ) → n < length s → lastly test (take (n + 1) s) ≡ test (byte s n)
 lastly-byte test s n h = rw (add-one n, take-suc s n 0 h) (lastly-snoc test (take n s) (byte s n))
 
-module _ (test : List ℕ → Bool) where
-  along-inside : (k : ℕ) (p s : List ℕ) → along test k p s ≤ length s
-  unfolding along
-  along-inside zero p s = omega arith
-  along-inside (suc k) p [] = omega arith
-  along-inside (suc k) p (b ∷ s) = go (test (p ++ (b ∷ []))) (along-inside k (p ++ (b ∷ [])) s)
-    where
-      go : (t : Bool) → along test k (p ++ (b ∷ [])) s ≤ length s → cond t (suc (along test k (p ++ (b ∷ [])) s)) 0 ≤ suc (length s)
-      go true h = omega arith
-      go false h = omega arith
-
-  along-few : (k : ℕ) (p s : List ℕ) → along test k p s ≤ k
-  unfolding along
-  along-few zero p s = omega arith
-  along-few (suc k) p [] = omega arith
-  along-few (suc k) p (b ∷ s) = go (test (p ++ (b ∷ []))) (along-few k (p ++ (b ∷ [])) s)
-    where
-      go : (t : Bool) → along test k (p ++ (b ∷ [])) s ≤ k → cond t (suc (along test k (p ++ (b ∷ [])) s)) 0 ≤ suc k
-      go true h = omega arith
-      go false h = omega arith
+along-inside : (test : List ℕ → Bool) (k : ℕ) (p s : List ℕ) → (along test k p s ≤ length s) × (along test k p s ≤ k)
+unfolding along
+along-inside test zero p s = (omega arith, omega arith)
+along-inside test (suc k) p [] = (omega arith, omega arith)
+along-inside test (suc k) p (b ∷ s) = go (test (p ++ (b ∷ []))) (along test k (p ++ (b ∷ [])) s) (along-inside test k (p ++ (b ∷ [])) s)
+  where
+    go : (t : Bool) (n : ℕ) → (n ≤ length s) × (n ≤ k) → (cond t (suc n) 0 ≤ suc (length s)) × (cond t (suc n) 0 ≤ suc k)
+    go true n h = (omega arith, omega arith)
+    go false n h = (omega arith, omega arith)
 
 -- ---- an IPv6 text in brackets, and the colon
 
 module _ (s : List ℕ) {n : ℕ} (e : n ≡ ipv6End s) where
   pub ipv6-inside : (n ≤ length s) × (n ≤ 45)
   unfolding ipv6End
-  ipv6-inside = (rw e (along-inside ipv6GoesOn 45 [] s), rw e (along-few ipv6GoesOn 45 [] s))
+  ipv6-inside = rw e (along-inside ipv6GoesOn 45 [] s)
 
   brackets-is : bracketsOf (0x5B ∷ s)
       ≡ cond (eqb (byte s n) 0x5D && ipv6By (take n s) []) (cond (eqb (byte s (n + 1)) 0x3A) (reads (record { at = 1; host = take n s }) (n + 3)) (dies (n + 2))) (dies (n + 1))
   unfolding bracketsOf map seq word common ipv6TextOf
-  brackets-is = rw (← e) (go (eqb (byte s n) 0x5D && ipv6By (take n s) []) (mark-first 0x3A (tt {0}) (drop (n + 1) s) (λ z. omega arith) ∙ rw (getD-drop (n + 1) s 0 0, add-zero (n + 1))))
+  brackets-is = rw (← e) (go (eqb (byte s n) 0x5D && ipv6By (take n s) []) (mark-first 0x3A (tt {0}) (drop (n + 1) s) (λ z. omega arith) ∙ rw (byte-behind s (n + 1))))
     where
       last : (b : Bool) → mapped bracketed (behind (tt {0}) 1 (behind (take n s) (n + 1) (cond b (reads (tt {0}) 1) (dies 0))))
           ≡ cond b (reads (record { at = 1; host = take n s }) (n + 3)) (dies (n + 2))
@@ -133,14 +122,14 @@ module _ (s : List ℕ) {n : ℕ} (e : n ≡ ipv6End s) where
       go true q = rw q (last (eqb (byte s (n + 1)) 0x3A))
       go false q = let z : 1 + n ≡ n + 1 = omega arith in rw z
 
-  pub brackets-open : (byte s n ≡ 0x5D → ⊥) → record { found = false; next = n + 1; at = 0; len = 0 } ≡ hostCoded (bracketsOf (0x5B ∷ s))
+  pub brackets-open : (byte s n ≡ 0x5D → ⊥) → bracketsOf (0x5B ∷ s) ≡ dies (n + 1)
   brackets-open f = rw (brackets-is, ne-eqb (byte s n) 0x5D f)
 
-  pub brackets-other : ipv6By (take n s) [] ≡ false → record { found = false; next = n + 1; at = 0; len = 0 } ≡ hostCoded (bracketsOf (0x5B ∷ s))
+  pub brackets-other : ipv6By (take n s) [] ≡ false → bracketsOf (0x5B ∷ s) ≡ dies (n + 1)
   brackets-other q = rw (brackets-is, q, and-false (eqb (byte s n) 0x5D))
 
   module _ (closed : byte s n ≡ 0x5D) (q : ipv6By (take n s) [] ≡ true) where
-    pub brackets-alone : (byte s (n + 1) ≡ 0x3A → ⊥) → record { found = false; next = n + 2; at = 0; len = 0 } ≡ hostCoded (bracketsOf (0x5B ∷ s))
+    pub brackets-alone : (byte s (n + 1) ≡ 0x3A → ⊥) → bracketsOf (0x5B ∷ s) ≡ dies (n + 2)
     brackets-alone f = rw (brackets-is, eq-eqb (byte s n) 0x5D closed, q, ne-eqb (byte s (n + 1)) 0x3A f)
 
     pub brackets-whole : byte s (n + 1) ≡ 0x3A → record { found = true; next = n + 3; at = 1; len = n } ≡ hostCoded (bracketsOf (0x5B ∷ s))
@@ -201,16 +190,16 @@ name-is s = names-along 254 s
 
 module _ (s : List ℕ) {n : ℕ} (e : n ≡ along (lastly hostByte) 255 [] s) where
   pub name-inside : (n ≤ length s) × (n ≤ 255)
-  name-inside = (rw e (along-inside (lastly hostByte) 255 [] s), rw e (along-few (lastly hostByte) 255 [] s))
+  name-inside = rw e (along-inside (lastly hostByte) 255 [] s)
 
-  pub name-none : n ≡ 0 → record { found = false; next = 0; at = 0; len = 0 } ≡ hostCoded (nameOf s)
+  pub name-none : n ≡ 0 → nameOf s ≡ dies 0
   name-none z = rw (name-is s, ← e, z)
 
   module _ (some : n ≡ 0 → ⊥) where
     pub name-whole : byte s n ≡ 0x3A → record { found = true; next = n + 1; at = 0; len = n } ≡ hostCoded (nameOf s)
     name-whole c = rw (name-is s, ← e, ne-eqb n 0 some, eq-eqb (byte s n) 0x3A c, length-take-le n s (name-inside .0))
 
-    pub name-alone : (byte s n ≡ 0x3A → ⊥) → record { found = false; next = n; at = 0; len = 0 } ≡ hostCoded (nameOf s)
+    pub name-alone : (byte s n ≡ 0x3A → ⊥) → nameOf s ≡ dies n
     name-alone f = rw (name-is s, ← e, ne-eqb n 0 some, ne-eqb (byte s n) 0x3A f)
 
 -- ---- either

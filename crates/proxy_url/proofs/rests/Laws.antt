@@ -13,7 +13,7 @@ use Rattle.proxy_url.specs.declared.credentials.CredentialRead.{Credenti
 use Rattle.proxy_url.specs.declared.endpoints.EndpointRead.{EndpointRead}
 use Rattle.proxy_url.specs.declared.rests.RestRead.{RestRead}
 use Rattle.proxy_url.specs.Coded.{zeros, credentialCoded, endpointCoded, restCoded}
-use Rattle.proxy_url.proofs.Readers.{is-read, is-dead}
+use Rattle.proxy_url.proofs.Told.{credential-told, endpoint-told, rest-told}
 use Rattle.proxy_url.proofs.Inside.{Inside, inside-or, inside-map, inside-seq, told-inside}
 use Rattle.proxy_url.proofs.Parts.{from}
 use Rattle.proxy_url.proofs.credentials.Laws.{inside-credential, credential-inside}
@@ -24,7 +24,7 @@ use Rattle.proxy_url.proofs.endpoints.Laws.{inside-plain, endpoint-insi
 module _ (s : List ℕ) {u : CredentialRead} (e : u ≡ credentialCoded (credentialOf 0x3A s)) where
   pub user-stuck : u .found ≡ false → withOf s ≡ dies (u .next)
   unfolding withOf map seq
-  user-stuck f = let (n, q) = is-dead credentialCoded (λ y. y .found) (λ v n. refl) (λ n. refl) (credentialOf 0x3A s) e f in rw (e, q)
+  user-stuck f = let (n, q) = credential-told .is-dead (credentialOf 0x3A s) e f in rw (e, q)
 
   module _ {w : CredentialRead} (d : w ≡ credentialCoded (credentialOf 0x40 (from s (u .next)))) where
     pub password-inside : u .next + w .next ≤ length s
@@ -38,9 +38,9 @@ module _ (s : List ℕ) {u : CredentialRead} (e : u ≡ credentialCoded (credent
       pub password-stuck : w .found ≡ false → withOf s ≡ dies (u .next + w .next)
       unfolding withOf map seq
       password-stuck g =
-          let (v, n, q) = is-read credentialCoded (λ y. y .found) (λ v n. refl) (λ n. refl) (credentialOf 0x3A s) e f in
+          let (v, n, q) = credential-told .is-read (credentialOf 0x3A s) e f in
           let b : w ≡ credentialCoded (credentialOf 0x40 (drop n s)) = rw (part-from s (u .next), e, q) at d in
-          let (m, k) = is-dead credentialCoded (λ y. y .found) (λ v n. refl) (λ n. refl) (credentialOf 0x40 (drop n s)) b g in
+          let (m, k) = credential-told .is-dead (credentialOf 0x40 (drop n s)) b g in
           rw (e, q, b, k)
 
     module _ {r : EndpointRead} (t : r ≡ endpointCoded (plainOf (from (from s (u .next)) (w .next)))) where
@@ -56,22 +56,22 @@ module _ (s : List ℕ) {u : CredentialRead} (e : u ≡ credentialCoded (credent
         pub endpoint-stuck : r .found ≡ false → withOf s ≡ dies (u .next + (w .next + r .next))
         unfolding withOf map seq
         endpoint-stuck x =
-            let (v, n, q) = is-read credentialCoded (λ y. y .found) (λ v n. refl) (λ n. refl) (credentialOf 0x3A s) e f in
+            let (v, n, q) = credential-told .is-read (credentialOf 0x3A s) e f in
             let b : w ≡ credentialCoded (credentialOf 0x40 (drop n s)) = rw (part-from s (u .next), e, q) at d in
-            let (y, m, k) = is-read credentialCoded (λ y. y .found) (λ v n. refl) (λ n. refl) (credentialOf 0x40 (drop n s)) b g in
+            let (y, m, k) = credential-told .is-read (credentialOf 0x40 (drop n s)) b g in
             let c : r ≡ endpointCoded (plainOf (drop m (drop n s))) = rw (part-from s (u .next), part-from (drop (u .next) s) (w .next), e, q, b, k) at t in
-            let (i, z) = is-dead endpointCoded (λ y. y .found) (λ v n. refl) (λ n. refl) (plainOf (drop m (drop n s))) c x in
+            let (i, z) = endpoint-told .is-dead (plainOf (drop m (drop n s))) c x in
             rw (e, q, b, k, c, z)
 
         pub with-whole : r .found ≡ true
             → record { found = true; next = u .next + (w .next + r .next); auth = true; user = u .bytes; «user_len» = u .len; password = w .bytes; «password_len» = w .len; at = u .next + (w .next + r .at); len = r .len; port = r .port } ≡ restCoded (withOf s)
         unfolding withOf map seq
         with-whole x =
-            let (v, n, q) = is-read credentialCoded (λ y. y .found) (λ v n. refl) (λ n. refl) (credentialOf 0x3A s) e f in
+            let (v, n, q) = credential-told .is-read (credentialOf 0x3A s) e f in
             let b : w ≡ credentialCoded (credentialOf 0x40 (drop n s)) = rw (part-from s (u .next), e, q) at d in
-            let (y, m, k) = is-read credentialCoded (λ y. y .found) (λ v n. refl) (λ n. refl) (credentialOf 0x40 (drop n s)) b g in
+            let (y, m, k) = credential-told .is-read (credentialOf 0x40 (drop n s)) b g in
             let c : r ≡ endpointCoded (plainOf (drop m (drop n s))) = rw (part-from s (u .next), part-from (drop (u .next) s) (w .next), e, q, b, k) at t in
-            let (i, o, z) = is-read endpointCoded (λ y. y .found) (λ v n. refl) (λ n. refl) (plainOf (drop m (drop n s))) c x in
+            let (i, o, z) = endpoint-told .is-read (plainOf (drop m (drop n s))) c x in
             rw (e, q, b, k, c, z)
 
 -- ---- by the version
@@ -91,7 +91,7 @@ module _ (s : List ℕ) {r : EndpointRead} (e : r ≡ endpointCoded (plainOf s))
   pub plain-whole : (version : Version) → r .found ≡ true → plainly ≡ restCoded (restOf version s)
   unfolding restOf or
   plain-whole V4 f = plain-told
-  plain-whole V5 f = let (v, n, q) = is-read endpointCoded (λ y. y .found) (λ v n. refl) (λ n. refl) (plainOf s) e f in plain-told ∙ rw q
+  plain-whole V5 f = let (v, n, q) = endpoint-told .is-read (plainOf s) e f in plain-told ∙ rw q
 
   pub plain-v4 : {version : Version} → version ≡ V4 → plainly ≡ restCoded (restOf version s)
   unfolding restOf
@@ -101,15 +101,15 @@ module _ (s : List ℕ) {r : EndpointRead} (e : r ≡ endpointCoded (plainOf s))
     pub with-v5 : w .found ≡ true → w ≡ restCoded (restOf version s)
     unfolding restOf or
     with-v5 g =
-        let (n, q) = is-dead endpointCoded (λ y. y .found) (λ v n. refl) (λ n. refl) (plainOf s) e f in
-        let (v, m, k) = is-read restCoded (λ y. y .found) (λ v n. refl) (λ n. refl) (withOf s) d g in
+        let (n, q) = endpoint-told .is-dead (plainOf s) e f in
+        let (v, m, k) = rest-told .is-read (withOf s) d g in
         rw (z, q, d, k)
 
     pub neither-v5 : w .found ≡ false → restOf version s ≡ dies (max (r .next) (w .next))
     unfolding restOf or
     neither-v5 g =
-        let (n, q) = is-dead endpointCoded (λ y. y .found) (λ v n. refl) (λ n. refl) (plainOf s) e f in
-        let (m, k) = is-dead restCoded (λ y. y .found) (λ v n. refl) (λ n. refl) (withOf s) d g in
+        let (n, q) = endpoint-told .is-dead (plainOf s) e f in
+        let (m, k) = rest-told .is-dead (withOf s) d g in
         rw (z, e, q, d, k)
 
 -- ---- within the text

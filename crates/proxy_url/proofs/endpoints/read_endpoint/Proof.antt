@@ -16,10 +16,10 @@ returns : tie.Need-returns
 returns c = endpoint-whole (c .before .before .before .before .before .before .before .args .text .now) (c .before .before .before .before .before .read-host .ensures) (c .before .before .read-port .ensures) (c .before .before .before .before .if1 .taken) (c .if2 .taken)
 
 returns-2 : tie.Need-returns-2
-returns-2 c = rw (c .no-endpoint .ensures) (port-stuck (c .before .before .before .before .before .before .before .before .args .text .now) (c .before .before .before .before .before .before .read-host .ensures) (c .before .before .before .read-port .ensures) (c .before .before .before .before .before .if1 .taken) (c .before .if2 .left))
+returns-2 c = rw (c .no-endpoint .ensures, port-stuck (c .before .before .before .before .before .before .before .before .args .text .now) (c .before .before .before .before .before .before .read-host .ensures) (c .before .before .before .read-port .ensures) (c .before .before .before .before .before .if1 .taken) (c .before .if2 .left))
 
 returns-3 : tie.Need-returns-3
-returns-3 c = rw (c .no-endpoint2 .ensures) (host-stuck (c .before .before .before .before .args .text .now) (c .before .before .read-host .ensures) (c .before .if1 .left))
+returns-3 c = rw (c .no-endpoint2 .ensures, host-stuck (c .before .before .before .before .args .text .now) (c .before .before .read-host .ensures) (c .before .if1 .left))
 
 pub read-endpoint-spec : {M : Type 1} → statement M
 read-endpoint-spec =

@@ -19,7 +19,7 @@ add-no-host : tie.Need-add-no-host
 add-no-host c = let h = end-inside (c .before .before) in search needs
 
 returns : tie.Need-returns
-returns c = rw (c .no-host .ensures) (brackets-open (c .before .before .before .before .before .args .text .now) (c .before .before .before .ipv6-end .ensures) (λ e. c .before .if1 .taken (c .before .before .byte-at .ensures ∙ e)))
+returns c = rw (c .no-host .ensures, brackets-open (c .before .before .before .before .before .args .text .now) (c .before .before .before .ipv6-end .ensures) (λ e. c .before .if1 .taken (c .before .before .byte-at .ensures ∙ e)))
 
 slice-aggregate-is-ipv6 : tie.Need-slice-aggregate-is-ipv6
 slice-aggregate-is-ipv6 c = sym (part-long (c .before .before .before))
@@ -40,13 +40,13 @@ add-no-host-2 : tie.Need-add-no-host-2
 add-no-host-2 c = let h = end-inside (c .before .before .before .before .before .before .before .before) in search needs
 
 returns-3 : tie.Need-returns-3
-returns-3 c = rw (c .no-host2 .ensures) (brackets-alone (c .before .before .before .before .before .before .before .before .before .before .before .args .text .now) (c .before .before .before .before .before .before .before .before .before .ipv6-end .ensures) (sym (c .before .before .before .before .before .before .before .before .byte-at .ensures) ∙ c .before .before .before .before .before .before .before .if1 .left) (sym (c .before .before .before .before .is-ipv6 .ensures) ∙ c .before .before .before .if2 .taken) (λ e. c .before .if3 .left (c .before .before .byte-at2 .ensures ∙ e)))
+returns-3 c = rw (c .no-host2 .ensures, brackets-alone (c .before .before .before .before .before .before .before .before .before .before .before .args .text .now) (c .before .before .before .before .before .before .before .before .before .ipv6-end .ensures) (sym (c .before .before .before .before .before .before .before .before .byte-at .ensures) ∙ c .before .before .before .before .before .before .before .if1 .left) (sym (c .before .before .before .before .is-ipv6 .ensures) ∙ c .before .before .before .if2 .taken) (λ e. c .before .if3 .left (c .before .before .byte-at2 .ensures ∙ e)))
 
 add-no-host-3 : tie.Need-add-no-host-3
 add-no-host-3 c = let h = end-inside (c .before .before .before .before .before .before) in search needs
 
 returns-4 : tie.Need-returns-4
-returns-4 c = rw (c .no-host3 .ensures) (brackets-other (c .before .before .before .before .before .before .before .before .before .args .text .now) (c .before .before .before .before .before .before .before .ipv6-end .ensures) (sym (c .before .before .is-ipv6 .ensures) ∙ c .before .if2 .left))
+returns-4 c = rw (c .no-host3 .ensures, brackets-other (c .before .before .before .before .before .before .before .before .before .args .text .now) (c .before .before .before .before .before .before .before .ipv6-end .ensures) (sym (c .before .before .is-ipv6 .ensures) ∙ c .before .if2 .left))
 
 pub read-brackets-spec : {M : Type 1} → statement M
 read-brackets-spec =

@@ -19,32 +19,14 @@ abbrev μ-loop : tie.MeasureT-loop
 loop-holds : tie.Need-loop-holds Inv-loop μ-loop
 loop-holds c = (search needs, (λ q. refl, (search needs, refl)))
 
-shared-slice-read-hex-value : tie.Need-shared-slice-read-hex-value Inv-loop μ-loop
-shared-slice-read-hex-value c = search needs
-
-hex-value-requires : tie.Need-hex-value-requires Inv-loop μ-loop
-hex-value-requires c κs = search needs
-
-port-goes-requires : tie.Need-port-goes-requires Inv-loop μ-loop
-port-goes-requires c κs = search needs
-
 -- the value with a digit that may follow
 fits : (c : tie.Then1 Inv-loop μ-loop) →
     let l = c .before .before .before .before .before .loop in
     (c .before .before .hex-value .result < 10) × (l .value * 10 + c .before .before .hex-value .result ≤ 65535)
 fits c = let l = c .before .before .before .before .before .loop in goes-fits (l .value) (l .n) (c .before .before .hex-value .result) (sym (c .before .port-goes .ensures) ∙ c .if1 .taken)
 
-mul-value : tie.Need-mul-value Inv-loop μ-loop
-mul-value c = search needs
-
 add-value : tie.Need-add-value Inv-loop μ-loop
 add-value c = omega (arith, fits c)
-
-add-n : tie.Need-add-n Inv-loop μ-loop
-add-n c = search needs
-
-loop-less : tie.Need-loop-less Inv-loop μ-loop
-loop-less c = search needs
 
 loop-again : tie.Need-loop-again Inv-loop μ-loop
 loop-again c =
@@ -57,9 +39,6 @@ returns c =
     let s = c .before .before .before .before .before .before .before .args .text .now in
     let l = c .before .before .before .before .before .loop in
     port-stops s (digit-stops s (l .value) (l .n) (c .before .before .before .before .loop-test .taken) (l .inv .1 .1 .1) (c .before .before .hex-value .ensures) (sym (c .before .port-goes .ensures) ∙ c .if1 .left)) (c .before .before .before .before .loop-test .taken)
-
-cast-t12 : tie.Need-cast-t12 Inv-loop μ-loop
-cast-t12 c = search needs
 
 returns-2 : tie.Need-returns-2 Inv-loop μ-loop
 returns-2 c =
@@ -74,14 +53,14 @@ read-port-spec =
     Inv-loop
     μ-loop
     loop-holds
-    shared-slice-read-hex-value
-    hex-value-requires
-    port-goes-requires
-    mul-value
+    (λ c. search needs)
+    (λ c κs. search needs)
+    (λ c κs. search needs)
+    (λ c. search needs)
     add-value
-    add-n
-    loop-less
+    (λ c. search needs)
+    (λ c. search needs)
     loop-again
     returns
-    cast-t12
+    (λ c. search needs)
     returns-2)
