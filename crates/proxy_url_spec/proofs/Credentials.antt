@@ -11,7 +11,7 @@ use Rattle.protocol.specs.AddressText.{Hex}
 use Rattle.protocol.specs.AddressReading.{hexValue}
 use Rattle.protocol.proofs.AddressDigits.{hex-value, value-hex, hex-small}
 use Rattle.proxy_url_spec.specs.Grammar.{Unreserved, upper, lower, digit, hyphen, dot, underscore, tilde, Escaped, end, as-is, escape, Credential}
-use Rattle.proxy_url_spec.specs.Reading.{one, map, seq, always, markOf, unreserved, same, isHex, hexOf, pairOf, secondOf, escapedOf, credentialOf}
+use Rattle.proxy_url_spec.specs.Reading.{one, map, seq, always, markOf, unreserved, itself, isHex, hexOf, pairOf, secondOf, escapedOf, credentialOf}
 use Rattle.proxy_url_spec.proofs.Readers as R
 use Rattle.proxy_url_spec.proofs.Readers.{Any, Inhabited, Law, law-as, Image, some-image, law-map, Joined, some-joined, law-seq, Or, Apart, law-or}
 use Rattle.proxy_url_spec.proofs.Fields as F
@@ -64,7 +64,7 @@ abbrev Coded : List ℕ → ℕ → Type 0
 Coded = Image secondOf (Joined (Is {A = Unit {0}} (0x25 ∷ []) tt) (Then Pair))
 
 abbrev Plain : List ℕ → ℕ → Type 0
-Plain = Passes unreserved same
+Plain = Passes unreserved itself
 
 law-hex : Law Any HexByte hexOf
 unfolding hexValue
@@ -91,8 +91,8 @@ plain-coded w t v x o y r u z q e =
 law-escaped-by : Law Any (Or Plain Coded) escapedOf
 unfolding escapedOf unreserved
 law-escaped-by =
-    law-or Any Plain Coded (one unreserved same) (map secondOf (seq (markOf 0x25) (always (map pairOf (seq hexOf (always hexOf))))))
-    (law-one unreserved same 0x61 refl)
+    law-or Any Plain Coded (one unreserved itself) (map secondOf (seq (markOf 0x25) (always (map pairOf (seq hexOf (always hexOf))))))
+    (law-one unreserved itself 0x61 refl)
     (law-map secondOf Any (Joined (Is (0x25 ∷ []) tt) (Then Pair)) (seq (markOf 0x25) (always (map pairOf (seq hexOf (always hexOf)))))
     (law-seq Any (Is (0x25 ∷ []) tt) (markOf 0x25) (Then Pair) (always (map pairOf (seq hexOf (always hexOf)))) (law-word (0x25 ∷ []) tt) (λ v. law-pair) (λ v. pair-some)))
     plain-coded

@@ -9,7 +9,7 @@ use lib.ListN.{length, getD}
 use borrow.Author.Tests.{leb-true, le-leb, eqb-false, ne-eqb, not-true}
 use Rattle.proxy_url_spec.specs.Grammar as G
 use Rattle.proxy_url_spec.specs.Grammar.{HostByte, HostBytes, Host, ipv6, bytes}
-use Rattle.proxy_url_spec.specs.Reading.{Reader, one, map, seq, many, always, markOf, same, consed, Hosted, bracketed, named, ipv6TextOf, bracketsOf, hostByte, nameOf, hostOf}
+use Rattle.proxy_url_spec.specs.Reading.{Reader, one, map, seq, many, always, markOf, itself, consed, Hosted, bracketed, named, ipv6TextOf, bracketsOf, hostByte, nameOf, hostOf}
 use Rattle.proxy_url_spec.proofs.Readers as R
 use Rattle.proxy_url_spec.proofs.Readers.{Any, Inhabited, Law, law-as, Image, law-map, Joined, some-joined, law-seq, Or, Apart, law-or}
 use Rattle.proxy_url_spec.proofs.Fields as F
@@ -85,10 +85,10 @@ law-brackets =
     (λ v. some-joined text-some (λ u. mark-some 0x3A)))
 
 abbrev HB : List ℕ → ℕ → Type 0
-HB = Passes hostByte same
+HB = Passes hostByte itself
 
 abbrev hostReader : Reader ℕ
-hostReader = one hostByte same
+hostReader = one hostByte itself
 
 abbrev More : List ℕ → List ℕ → Type 0
 More = Marked HB 0x3A 254
@@ -98,7 +98,7 @@ Name = Image named (Image consed (Joined HB (Then More)))
 
 law-host-byte : Law Any HB hostReader
 unfolding hostByte
-law-host-byte = law-one hostByte same 0x61 refl
+law-host-byte = law-one hostByte itself 0x61 refl
 
 colon-clear : (w t : List ℕ) (v : ℕ) → HB w v → (r : List ℕ) → 0x3A ∷ r ≡ w ++ t → ⊥
 unfolding hostByte

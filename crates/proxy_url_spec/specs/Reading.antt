@@ -115,8 +115,9 @@ unreserved b =
     (cond (ltb b 0x61) (eqb b 0x5F)
     (cond (ltb b 0x7B) true (eqb b 0x7E))))))
 
-abbrev pub same : ℕ → ℕ
-same b = b
+-- the byte itself
+abbrev pub itself : ℕ → ℕ
+itself b = b
 
 abbrev pub isHex : ℕ → Bool
 isHex b = ltb (hexValue b) 16
@@ -132,7 +133,7 @@ secondOf t = t .2
 
 -- a byte of a credential, as it is or escaped
 unfoldable pub escapedOf : Reader ℕ
-escapedOf = or (one unreserved same) (map secondOf (seq (markOf 0x25) (always (map pairOf (seq hexOf (always hexOf))))))
+escapedOf = or (one unreserved itself) (map secondOf (seq (markOf 0x25) (always (map pairOf (seq hexOf (always hexOf))))))
 
 -- a user or a password, and the mark behind it
 unfoldable pub credentialOf : ℕ → Reader (List ℕ)
@@ -195,7 +196,7 @@ abbrev pub named : List ℕ → Hosted
 named s = record { at = 0; host = s }
 
 unfoldable pub nameOf : Reader Hosted
-nameOf = map named (map consed (seq (one hostByte same) (always (many (one hostByte same) 0x3A 254))))
+nameOf = map named (map consed (seq (one hostByte itself) (always (many (one hostByte itself) 0x3A 254))))
 
 -- a host, and the colon behind it
 unfoldable pub hostOf : Reader Hosted

@@ -12,7 +12,7 @@ use lib.Dec.{eqb}
 use Rattle.protocol.specs.Bytes.{byte}
 use Rattle.protocol.specs.AddressReading.{hexValue}
 use Rattle.buffers.proofs.write.Parts.{part-from}
-use Rattle.proxy_url_spec.specs.Reading.{Read, reads, dies, mapped, map, behind, onward, either, seq, always, or, one, many, unreserved, same, isHex, hexOf, pairOf, secondOf, markOf, escapedOf, credentialOf}
+use Rattle.proxy_url_spec.specs.Reading.{Read, reads, dies, mapped, map, behind, onward, either, seq, always, or, one, many, unreserved, itself, isHex, hexOf, pairOf, secondOf, markOf, escapedOf, credentialOf}
 use Rattle.proxy_url.specs.declared.credentials.EscapedRead.{EscapedRead}
 use Rattle.proxy_url.specs.declared.credentials.CredentialRead.{CredentialRead}
 use Rattle.proxy_url.specs.Coded.{zeros, escapedCoded, credentialCoded}
@@ -44,7 +44,7 @@ pub escaped-first : (s : List ℕ) → escapedOf s
     (cond (eqb (byte s 0) 0x25) (cond (isHex (byte s 1)) (cond (isHex (byte s 2)) (reads (hexValue (byte s 1) * 16 + hexValue (byte s 2)) 3) (dies 2)) (dies 1)) (dies 0))
 unfolding escapedOf or map seq unreserved
 escaped-first s =
-    rw (one-first unreserved same s refl, mark-first 0x25 (tt {0}) s (λ e. omega arith))
+    rw (one-first unreserved itself s refl, mark-first 0x25 (tt {0}) s (λ e. omega arith))
     (go (unreserved (byte s 0)) (eqb (byte s 0) 0x25) (byte s 0) (hexes-first (drop 1 s) ∙ rw (getD-drop 1 s 0 0, getD-drop 1 s 1 0)))
   where
     hexes : Read ℕ
@@ -66,7 +66,7 @@ pub inside-escaped : Inside (λ u. 0) escapedOf
 unfolding escapedOf
 inside-escaped =
     let hexes = inside-map (λ u. 0) pairOf (seq hexOf (always hexOf)) (inside-both hexOf (always hexOf) (inside-one isHex hexValue) (λ v. inside-one isHex hexValue)) in
-    inside-or (λ u. 0) (one unreserved same) _ (inside-one unreserved same)
+    inside-or (λ u. 0) (one unreserved itself) _ (inside-one unreserved itself)
     (inside-map (λ u. 0) secondOf _ (inside-both (markOf 0x25) _ (inside-word (0x25 ∷ []) tt) (λ v. hexes)))
 
 -- ---- a credential, from a place on

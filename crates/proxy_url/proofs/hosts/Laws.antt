@@ -20,7 +20,7 @@ use Rattle.address_text.specs.ipv6.Answers.{ipv6Text}
 use Rattle.buffers.specs.write.Written.{overwrite, Wrote}
 use Rattle.buffers.proofs.write.Laws.{then}
 use Rattle.buffers.proofs.write.Parts.{part-from}
-use Rattle.proxy_url_spec.specs.Reading.{Read, reads, dies, mapped, map, behind, onward, seq, always, or, common, word, one, consed, many, same, markOf, ipv6By, isSome, ipv6GoesOn, along, ipv6End, ipv6TextOf, Hosted, bracketed, bracketsOf, hostByte, named, nameOf, hostOf}
+use Rattle.proxy_url_spec.specs.Reading.{Read, reads, dies, mapped, map, behind, onward, seq, always, or, common, word, one, consed, many, itself, markOf, ipv6By, isSome, ipv6GoesOn, along, ipv6End, ipv6TextOf, Hosted, bracketed, bracketsOf, hostByte, named, nameOf, hostOf}
 use Rattle.proxy_url.specs.Coded.{lastly, hostCoded}
 use Rattle.proxy_url.specs.declared.hosts.HostRead.{HostRead}
 use Rattle.proxy_url.proofs.Readers.{byte-behind, byte-inside, mark-first, or-left, or-right, ahead, many-marked, many-full, many-more, many-dies}
@@ -142,33 +142,33 @@ abbrev namesBy : ℕ → ℕ → List ℕ → Read (List ℕ)
 namesBy mark n s = cond (eqb (byte s n) mark) (reads (take n s) (n + 1)) (dies n)
 
 module _ (test : ℕ → Bool) (mark : ℕ) (some : mark ≡ 0 → ⊥) (past : test 0 ≡ false) (unlike : test mark ≡ false) where
-  many-along : (k : ℕ) (p s : List ℕ) → many (one test same) mark k s ≡ namesBy mark (along (lastly test) k p s) s
+  many-along : (k : ℕ) (p s : List ℕ) → many (one test itself) mark k s ≡ namesBy mark (along (lastly test) k p s) s
   unfolding along one
   many-along zero p s = go (eqb (byte s 0) mark) refl
     where
-      go : (b : Bool) → eqb (byte s 0) mark ≡ b → many (one test same) mark zero s ≡ cond b (reads [] 1) (dies 0)
-      go true q = many-marked (one test same) mark some s zero (eqb-true (byte s 0) mark q)
-      go false q = many-full (one test same) mark some s (eqb-false (byte s 0) mark q)
+      go : (b : Bool) → eqb (byte s 0) mark ≡ b → many (one test itself) mark zero s ≡ cond b (reads [] 1) (dies 0)
+      go true q = many-marked (one test itself) mark some s zero (eqb-true (byte s 0) mark q)
+      go false q = many-full (one test itself) mark some s (eqb-false (byte s 0) mark q)
   many-along (suc k) p [] =
       let o : 0 ≡ mark → ⊥ = λ e. some (sym e) in
-      rw (ne-eqb 0 mark o) (many-dies (one test same) mark some [] o k refl)
+      rw (ne-eqb 0 mark o) (many-dies (one test itself) mark some [] o k refl)
   many-along (suc k) p (b ∷ s) = rw (lastly-snoc test p b) (go (eqb b mark) refl (test b) refl (along (lastly test) k (p ++ (b ∷ [])) s) (many-along k (p ++ (b ∷ [])) s))
     where
       more : (m : ℕ) (t : Bool) → ahead (b ∷ []) 1 (cond t (reads (take m s) (m + 1)) (dies m)) ≡ cond t (reads (b ∷ take m s) (suc m + 1)) (dies (suc m))
       more m true = let z : 1 + (m + 1) ≡ suc m + 1 = omega arith in rw z
       more m false = rw one-add
 
-      go : (e : Bool) → eqb b mark ≡ e → (t : Bool) → test b ≡ t → (m : ℕ) → many (one test same) mark k s ≡ namesBy mark m s → many (one test same) mark (suc k) (b ∷ s) ≡ namesBy mark (cond t (suc m) 0) (b ∷ s)
+      go : (e : Bool) → eqb b mark ≡ e → (t : Bool) → test b ≡ t → (m : ℕ) → many (one test itself) mark k s ≡ namesBy mark m s → many (one test itself) mark (suc k) (b ∷ s) ≡ namesBy mark (cond t (suc m) 0) (b ∷ s)
       go true e true q m ih = absurd (true≢false (sym q ∙ ap test (eqb-true b mark e) ∙ unlike))
-      go true e false q m ih = rw e (many-marked (one test same) mark some (b ∷ s) (suc k) (eqb-true b mark e))
-      go false e true q m ih = many-more (one test same) mark some (b ∷ s) (eqb-false b mark e) k {v = b} {n = 1} (rw q) ∙ rw ih (more m (eqb (byte s m) mark))
-      go false e false q m ih = rw e (many-dies (one test same) mark some (b ∷ s) (eqb-false b mark e) k {n = 0} (rw q))
+      go true e false q m ih = rw e (many-marked (one test itself) mark some (b ∷ s) (suc k) (eqb-true b mark e))
+      go false e true q m ih = many-more (one test itself) mark some (b ∷ s) (eqb-false b mark e) k {v = b} {n = 1} (rw q) ∙ rw ih (more m (eqb (byte s m) mark))
+      go false e false q m ih = rw e (many-dies (one test itself) mark some (b ∷ s) (eqb-false b mark e) k {n = 0} (rw q))
 
 abbrev namedBy : ℕ → List ℕ → Read Hosted
 namedBy n s = cond (eqb n 0) (dies 0) (cond (eqb (byte s n) 0x3A) (reads (named (take n s)) (n + 1)) (dies n))
 
 -- one host byte and so many more
-names-along : (k : ℕ) (s : List ℕ) → mapped named (mapped consed (onward (one hostByte same s) (always (many (one hostByte same) 0x3A k)) s)) ≡ namedBy (along (lastly hostByte) (suc k) [] s) s
+names-along : (k : ℕ) (s : List ℕ) → mapped named (mapped consed (onward (one hostByte itself s) (always (many (one hostByte itself) 0x3A k)) s)) ≡ namedBy (along (lastly hostByte) (suc k) [] s) s
 unfolding one along hostByte
 names-along k [] = refl
 names-along k (b ∷ s) =
@@ -179,8 +179,8 @@ names-along k (b ∷ s) =
     more m true = let z : 1 + (m + 1) ≡ suc m + 1 = omega arith in rw z
     more m false = rw one-add
 
-    go : (t : Bool) (m : ℕ) → many (one hostByte same) 0x3A k s ≡ namesBy 0x3A m s
-        → mapped named (mapped consed (onward (cond t (reads b 1) (dies 0)) (always (many (one hostByte same) 0x3A k)) (b ∷ s))) ≡ namedBy (cond t (suc m) 0) (b ∷ s)
+    go : (t : Bool) (m : ℕ) → many (one hostByte itself) 0x3A k s ≡ namesBy 0x3A m s
+        → mapped named (mapped consed (onward (cond t (reads b 1) (dies 0)) (always (many (one hostByte itself) 0x3A k)) (b ∷ s))) ≡ namedBy (cond t (suc m) 0) (b ∷ s)
     go true m q = rw (eqb·suc-zero m, q) (more m (eqb (byte s m) 0x3A))
     go false m q = refl
 
@@ -241,7 +241,7 @@ unfolding nameOf
 inside-name =
     inside-map (λ h. h .at) named _
     (inside-map (λ u. 0) consed _
-    (inside-both (one hostByte same) _ (inside-one hostByte same) (λ v. inside-many (one hostByte same) 0x3A (inside-one hostByte same) 254)))
+    (inside-both (one hostByte itself) _ (inside-one hostByte itself) (λ v. inside-many (one hostByte itself) 0x3A (inside-one hostByte itself) 254)))
 
 pub inside-host : Inside (λ h. h .at) hostOf
 unfolding hostOf
