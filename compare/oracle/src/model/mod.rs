@@ -3,6 +3,7 @@ use crate::case::*;
 use std::net::IpAddr;
 
 pub mod ending;
+pub mod line;
 mod proxy;
 mod session;
 mod tunnel;
@@ -163,6 +164,7 @@ impl Line {
 
 pub fn text(case: &Case) -> String {
     match &case.kind {
+        Kind::Text(b'L', text) => line::text(text),
         Kind::Text(letter, text) => text_line(*letter, text),
         Kind::Ending(of, wanted) => ending::text(of, wanted),
         kind => line(case).text(kind),
