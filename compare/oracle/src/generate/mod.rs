@@ -3,6 +3,7 @@ use crate::case::*;
 use crate::draw::Random;
 
 mod ending;
+mod line;
 mod proxy;
 mod route;
 pub mod session;
@@ -12,8 +13,8 @@ mod texts;
 pub type Lent<'a> = (&'a [u16], &'a [u16]);
 
 // The kinds by a letter; those of texts by T.
-pub const KINDS: [(&str, u8); 5] =
-    [("texts", b'T'), ("run", b'S'), ("route", b'R'), ("proxy", b'P'), ("endings", b'E')];
+pub const KINDS: [(&str, u8); 6] =
+    [("texts", b'T'), ("run", b'S'), ("route", b'R'), ("proxy", b'P'), ("endings", b'E'), ("lines", b'L')];
 
 pub fn case(kind: u8, seed: u64, number: u64) -> Case {
     let mut r = Random::new(seed, number);
@@ -25,7 +26,7 @@ pub fn case(kind: u8, seed: u64, number: u64) -> Case {
 }
 
 pub fn has_calls(kind: u8) -> bool {
-    !matches!(kind, b'T' | b'E')
+    !matches!(kind, b'T' | b'E' | b'L')
 }
 
 // A session that is started once, ahead of its deliveries, and told of at last; ends and routes likewise.
@@ -35,6 +36,7 @@ pub fn in_order(kind: u8, r: &mut Random, number: u64) -> Case {
         b'S' => session::case(r).case(),
         b'R' => route::case(r).case(),
         b'E' => ending::case(r),
+        b'L' => line::case(r),
         _ => proxy::case(r).case(),
     }
 }
