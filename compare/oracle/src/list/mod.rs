@@ -1,5 +1,5 @@
 //! The kept list: texts, sessions, routes, the proxy's end, calls in every order, frames that hold no case; streams for
-//! endings, and frames that hold none of these; last, input that ends inside a frame.
+//! endings, proxy lines, and frames that hold none of these behind each; last, input that ends inside a frame.
 use crate::case::*;
 use crate::compare::Figures;
 use crate::draft::{Draft, Drafted};
@@ -10,6 +10,7 @@ use std::fs;
 
 mod bad;
 mod ending;
+mod line;
 mod orders;
 mod proxy;
 mod route;
@@ -107,6 +108,8 @@ pub fn write(dir: &str) -> Result<(), String> {
     files.frames(&bad::frames());
     files.cases(&[("streams for endings", ending::add)])?;
     files.frames(&ending::bad());
+    files.cases(&[("proxy lines", line::add)])?;
+    files.frames(&line::bad());
     let Files { mut stdin, mut stdout, figures } = files;
     stdin.extend([0, 9, b'U']);
     stdout += "bad\n";
