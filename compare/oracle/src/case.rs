@@ -79,7 +79,7 @@ pub struct Wanted {
 
 #[derive(Clone, PartialEq)]
 pub enum Kind {
-    // A, H or U
+    // A, H, U or L
     Text(u8, Vec<u8>),
     Session(Opening),
     // with what is lent to its opening
@@ -385,7 +385,7 @@ impl Case {
         let left = &mut { bytes };
         let letter = byte(left)?;
         let (kind, letters): (_, &[u8]) = match letter {
-            b'A' | b'H' | b'U' => (Kind::Text(letter, text(left)?), b""),
+            b'A' | b'H' | b'U' | b'L' => (Kind::Text(letter, text(left)?), b""),
             b'S' => (Kind::Session(opening(left)?), b"sdebt"),
             b'R' => (Kind::Route(route(left)?, number(left)?), b"det"),
             b'P' => (Kind::End(SetUp { flags: byte(left)?, user: text(left)?, password: text(left)? }), b"dea"),

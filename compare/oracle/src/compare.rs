@@ -137,6 +137,9 @@ impl Figures {
 
     pub fn add(&mut self, case: &Case, teller: Teller) {
         self.sum("bytes in all", case.bytes().len());
+        if let Kind::Text(b'L', text) = &case.kind {
+            return self.line(text, &model::text(case), teller);
+        }
         if let Kind::Text(letter, _) = &case.kind {
             let answer = if *letter == b'H' { "" } else { &model::text(case)[..1] };
             return self.one("texts", format!("{} {answer}", char::from(*letter)));
@@ -207,6 +210,33 @@ impl Figures {
             let with = if of.version == 5 && of.has(CREDENTIALS) { " with credentials" } else { "" };
             let ahead = if of.version == 5 && of.has(OPTIMISTIC) { " optimistically" } else { "" };
             self.one("accepted over", format!("v{}{with}{ahead}", of.version));
+        }
+    }
+
+    fn line(&mut self, text: &[u8], line: &str, teller: Teller) {
+        let fields: Vec<&str> = line.split(' ').collect();
+        match fields[..] {
+            [_, place] if place == text.len().to_string() => self.one("lines", "24 as it stops short"),
+            [_, place] => {
+                let before = &text[..place.parse::<usize>().expect("a number")];
+                let at = |sign: u8| before.iter().rposition(|b| *b == sign);
+                let part = match (at(b'['), at(b']'), at(b'@'), at(b'/')) {
+                    (Some(_), None, ..) => "in brackets",
+                    (Some(_), ..) => "behind brackets",
+                    (_, _, Some(_), _) => "behind credentials",
+                    (.., Some(_)) => "behind the scheme",
+                    _ => "in the scheme",
+                };
+                self.one("lines", "24 inside");
+                self.one("places", part);
+            }
+            _ => {
+                self.one("lines", "0");
+                self.one("version, lookup and credentials", fields[1..4].join(" "));
+            }
+        }
+        if teller == Teller::Rust {
+            self.sum("lines with a text in brackets, of which the Rust tells", 1);
         }
     }
 
@@ -312,7 +342,7 @@ fn damaged(program: &str, kind: u8, seed: u64, count: u64) -> usize {
             let at = if r.once_in(2) { r.below(bytes.len().min(60) + 1) } else { r.below(bytes.len() + 1) };
             let (before, behind) = bytes.split_at(at);
             let (there, behind) = behind.split_at(behind.len().min(6));
-            let other = r.damaged(there.to_vec(), b"\0\x01\x02\x04\x05\x06\x09sdebtawAHUSRPEC");
+            let other = r.damaged(there.to_vec(), b"\0\x01\x02\x04\x05\x06\x09sdebtawAHUSRPECL");
             let bytes = match r.below(8) {
                 0 => before.to_vec(),
                 1 => [&bytes[..], &r.some_bytes(4)].concat(),
@@ -320,8 +350,6 @@ fn damaged(program: &str, kind: u8, seed: u64, count: u64) -> usize {
             };
             frame(&bytes[..bytes.len().min(MOST_BYTES)])
         })
-        // a kind that a later request brings
-        .filter(|frame| frame.get(2) != Some(&b'L'))
         .collect();
     let read = frames.iter().filter(|frame| Case::read(&frame[2..]).is_some()).count();
     let mut lines = run(program, frames.concat()).into_iter();

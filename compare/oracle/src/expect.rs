@@ -8,7 +8,7 @@
 use crate::case::*;
 use crate::draw::Random;
 use crate::generate::session::{bound_replies, replies};
-use crate::model::{self, Line, Outcome, Step, capture, ending};
+use crate::model::{self, Line, Outcome, Step, capture, ending, line};
 use crate::rust::{self, Told};
 use std::net::IpAddr;
 
@@ -300,10 +300,40 @@ fn recorded(of: &Opening, captures: &[Vec<u8>]) -> Result<Teller, String> {
     Ok(came.teller)
 }
 
+// ---- proxy lines
+
+// The text behind the first bracket, up to the next one.
+fn inside(text: &[u8]) -> Option<&[u8]> {
+    let at = text.iter().position(|b| *b == b'[')?;
+    text[at + 1..].split(|b| *b == b']').next()
+}
+
+// The place, where nothing lawful is left too; and a text in brackets, whole and with endings, by the standard library.
+fn lined(text: &[u8]) -> Result<Teller, String> {
+    let (told, dies) = (line::text(text), line::dies(text));
+    if !told.starts_with("0 ") && told != format!("24 {dies}") {
+        return Err(format!("nothing is left at {dies}"));
+    }
+    let Some(inside) = inside(text) else {
+        return Ok(Teller::Model);
+    };
+    for ending in line::SIXES {
+        let six = [inside, ending.as_bytes()].concat();
+        let parsed = model::address_text(&six).is_some_and(|ip| ip.is_ipv6());
+        if line::lawful(&[b"socks4://[", &six[..], b"]:1"].concat()) != parsed {
+            return Err(format!("{}: IPv6 is {parsed}", hex(&six)));
+        }
+    }
+    Ok(Teller::Rust)
+}
+
 // ---- all kinds
 
 // The line and who tells it, or what the original says against it. The texts' are the standard library's.
 pub fn expect(case: &Case) -> Result<(String, Teller), String> {
+    if let Kind::Text(b'L', text) = &case.kind {
+        return lined(text).map(|teller| (model::text(case), teller));
+    }
     if let Kind::Text(..) = case.kind {
         return Ok((model::text(case), Teller::Rust));
     }

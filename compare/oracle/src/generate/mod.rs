@@ -4,6 +4,7 @@ use crate::draw::Random;
 
 mod capture;
 mod ending;
+mod line;
 mod proxy;
 mod route;
 pub mod session;
@@ -13,8 +14,8 @@ mod texts;
 pub type Lent<'a> = (&'a [u16], &'a [u16]);
 
 // The kinds by a letter; those of texts by T.
-pub const KINDS: [(&str, u8); 6] =
-    [("texts", b'T'), ("run", b'S'), ("route", b'R'), ("proxy", b'P'), ("endings", b'E'), ("recordings", b'C')];
+pub const KINDS: [(&str, u8); 7] =
+    [("texts", b'T'), ("run", b'S'), ("route", b'R'), ("proxy", b'P'), ("endings", b'E'), ("recordings", b'C'), ("lines", b'L')];
 
 pub fn case(kind: u8, seed: u64, number: u64) -> Case {
     let mut r = Random::new(seed, number);
@@ -26,7 +27,7 @@ pub fn case(kind: u8, seed: u64, number: u64) -> Case {
 }
 
 pub fn has_calls(kind: u8) -> bool {
-    !matches!(kind, b'T' | b'E' | b'C')
+    !matches!(kind, b'T' | b'E' | b'C' | b'L')
 }
 
 // A session that is started once, ahead of its deliveries, and told of at last; ends and routes likewise.
@@ -37,6 +38,7 @@ pub fn in_order(kind: u8, r: &mut Random, number: u64) -> Case {
         b'R' => route::case(r).case(),
         b'E' => ending::case(r),
         b'C' => capture::case(r),
+        b'L' => line::case(r),
         _ => proxy::case(r).case(),
     }
 }

@@ -58,7 +58,7 @@ fn host(r: &mut Random) -> Vec<u8> {
 }
 
 // Now and then a long text: this one again and again, up to the longest that a case can hold.
-fn long(r: &mut Random, text: Vec<u8>) -> Vec<u8> {
+pub fn long(r: &mut Random, text: Vec<u8>) -> Vec<u8> {
     if text.is_empty() || !r.once_in(2000) {
         return text;
     }

@@ -1,5 +1,5 @@
 //! The kept list: texts, sessions, routes, the proxy's end, calls in every order, frames that hold no case; streams for
-//! endings, and frames that hold none of these; captures likewise; last, input that ends inside a frame.
+//! endings, captures, proxy lines, and frames that hold none of these behind each; last, input that ends inside a frame.
 use crate::case::*;
 use crate::compare::Figures;
 use crate::draft::{Draft, Drafted};
@@ -11,6 +11,7 @@ use std::fs;
 mod bad;
 mod capture;
 mod ending;
+mod line;
 mod orders;
 mod proxy;
 mod route;
@@ -110,6 +111,8 @@ pub fn write(dir: &str) -> Result<(), String> {
     files.frames(&ending::bad());
     files.cases(&[("captures", capture::add)])?;
     files.frames(&bad::captures());
+    files.cases(&[("proxy lines", line::add)])?;
+    files.frames(&line::bad());
     let Files { mut stdin, mut stdout, figures } = files;
     stdin.extend([0, 9, b'U']);
     stdout += "bad\n";

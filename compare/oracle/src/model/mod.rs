@@ -4,6 +4,7 @@ use std::net::IpAddr;
 
 pub mod capture;
 pub mod ending;
+pub mod line;
 mod proxy;
 mod session;
 mod tunnel;
@@ -164,6 +165,7 @@ impl Line {
 
 pub fn text(case: &Case) -> String {
     match &case.kind {
+        Kind::Text(b'L', text) => line::text(text),
         Kind::Text(letter, text) => text_line(*letter, text),
         Kind::Ending(of, wanted) => ending::text(of, wanted),
         Kind::Captures(of, captures) => capture::text(of, captures),
