@@ -1,6 +1,7 @@
 // Cases of proxy lines (F-9): what a line says, or where it goes wrong.
 use input::places::part;
 use protocol::Answer;
+use protocol::CREDENTIAL;
 use protocol::Version;
 use proxy_url::ProxyLine;
 use report::Writer;
@@ -37,8 +38,14 @@ fn version_number(version: Version) -> usize {
 
 // VERSION and LOOKUP.
 fn put_scheme(start: Writer, text: &mut [u8], read: ProxyLine) -> Writer {
-    let writer = put_decimal(start, text, version_number(read.version));
+    let version = read.version;
+    let writer = put_decimal(start, text, version_number(version));
     put_flag(writer, text, read.local_dns)
+}
+
+// The first n bytes of a user or a password, with a space before them.
+fn put_credential(writer: Writer, text: &mut [u8], bytes: [u8; CREDENTIAL], n: usize) -> Writer {
+    put_part(writer, text, part(&bytes, 0, n))
 }
 
 // CREDENTIALS, USER and PASSWORD.
@@ -46,17 +53,22 @@ fn put_credentials(start: Writer, text: &mut [u8], read: ProxyLine) -> Writer {
     let user = read.user;
     let password = read.password;
     let given = put_flag(start, text, read.proxy_auth);
-    let writer = put_part(given, text, part(&user, 0, read.user_len));
-    put_part(writer, text, part(&password, 0, read.password_len))
+    let writer = put_credential(given, text, user, read.user_len);
+    put_credential(writer, text, password, read.password_len)
 }
 
-// What is told of a line that was read.
+// HOST and PORT.
+fn put_endpoint(start: Writer, text: &mut [u8], line: &[u8], read: ProxyLine) -> Writer {
+    let writer = put_part(start, text, proxy_url::host(line, read));
+    put_decimal(writer, text, read.port as usize)
+}
+
+// ANSWER 0, and what a line says.
 fn put_read(start: Writer, text: &mut [u8], line: &[u8], read: ProxyLine) -> Writer {
-    let zero = put_byte(start, text, b'0');
-    let scheme = put_scheme(zero, text, read);
+    let answer = put_byte(start, text, b'0');
+    let scheme = put_scheme(answer, text, read);
     let credentials = put_credentials(scheme, text, read);
-    let host = put_part(credentials, text, proxy_url::host(line, read));
-    put_decimal(host, text, read.port as usize)
+    put_endpoint(credentials, text, line, read)
 }
 
 // ANSWER and PLACE of a line that was refused.
