@@ -321,7 +321,7 @@ pub fn calls_at(s: &[u8]) -> usize {
     if kind == b'P' {
         return text_end(s, text_end(s, past(s, 1, 1)));
     }
-    if kind == b'A' || kind == b'H' || kind == b'U' {
+    if kind == b'A' || kind == b'H' || kind == b'U' || kind == b'L' {
         return text_end(s, 1);
     }
     NOWHERE

@@ -1,4 +1,5 @@
 // Runs the cases on standard input and writes a line for each (docs/CASES.md).
+mod lines;
 mod proxies;
 mod recordings;
 mod routes;
@@ -41,6 +42,9 @@ fn run_case(s: &[u8], writer: Writer, kept: &mut [u8], text: &mut [u8]) -> Write
     }
     if kind == b'C' {
         return recordings::run(s, writer, text);
+    }
+    if kind == b'L' {
+        return lines::run(text_at(s, 1), writer, text);
     }
     if kind == b'A' {
         return texts::put_address(text_at(s, 1), writer, text);
