@@ -7,7 +7,7 @@ use protocol::Digits;
 use protocol::Follows;
 
 // The value of a hexadecimal digit of either case; 16 for any other byte.
-fn hex_value(byte: u8) -> usize
+pub fn hex_value(byte: u8) -> usize
     ensures { λ r. ⌜ r ≡ hexValue byte ⌝ }
 {
     if byte < 0x30 {

@@ -1,0 +1,9 @@
+pub mod Readers
+pub mod Fields
+pub mod Schemes
+pub mod Credentials
+pub mod Ports
+pub mod Texts
+pub mod Hosts
+pub mod Lines
+pub mod Places
