@@ -53,7 +53,7 @@ value-hex b = go (ltb b 0x30) (ltb b 0x3A) (ltb b 0x41) (ltb b 0x47) (ltb b 0x61
         let l = ltb-false b 0x61 i in let m = ltb-true b 0x67 j in lower (omega arith) (omega arith) (omega arith)
     go false false false false false false e f g h i j k = absurd (omega arith)
 
-decimal-of : {b d : ℕ} → Hex b d → d ≤ 9 → Decimal b d
+pub decimal-of : {b d : ℕ} → Hex b d → d ≤ 9 → Decimal b d
 decimal-of (digit x) h = x
 decimal-of (upper l k e) h = absurd (omega arith)
 decimal-of (lower l k e) h = absurd (omega arith)
@@ -108,7 +108,7 @@ hex-more v n d l h = rw (lt-ltb d 16 (omega arith), lt-ltb n 4 (omega arith))
 
 -- ---- the grammar's digits are taken
 
-digits-on : (ok : ℕ → ℕ → ℕ → Bool) (base v n b : ℕ) (s : List ℕ) {d : ℕ} → hexValue b ≡ d → ok v n d ≡ true
+pub digits-on : (ok : ℕ → ℕ → ℕ → Bool) (base v n b : ℕ) (s : List ℕ) {d : ℕ} → hexValue b ≡ d → ok v n d ≡ true
     → digitsFrom ok base v n (b ∷ s) ≡ digitsFrom ok base (v * base + d) (n + 1) s
 unfolding digitsFrom
 digits-on ok base v n b s e g = rw (e, g)
@@ -211,7 +211,7 @@ number-first b e =
     let z : 0 * 10 + hexValue b ≡ hexValue b = omega arith in
     rw z (G.one (decimal-of (value-hex b (omega arith)) h))
 
-positive : (w : ℕ) → (w ≡ 0 → ⊥) → 1 ≤ w
+pub positive : (w : ℕ) → (w ≡ 0 → ⊥) → 1 ≤ w
 positive zero f = absurd (f refl)
 positive (suc w) f = omega arith
 

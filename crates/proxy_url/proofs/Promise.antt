@@ -1,24 +1,19 @@
 -- F-9's promise holds of every line.
-use Prim.Native.Nat.{ℕ, _-_, _≤_, _<_}
+use Prim.Native.Nat.{ℕ, _-_}
 use native.Mathlib.Omega.{arith}
-use mathlib.Core.Path.{_≡_, refl, ap, sym, subst, _∙_}
-use mathlib.Core.Logic.{_↔_, _⊎_, inl, inr}
+use mathlib.Core.Path.{_≡_, refl, sym, subst, _∙_}
+use mathlib.Core.Logic.{_⊎_, inl, inr}
 use mathlib.Core.Option.{Option, none, some}
-use mathlib.Core.List.{List, [], _∷_, _++_}
-use lib.Dec.{lit<}
-use lib.ListN.{length, take, drop, replicate}
+use mathlib.Core.List.{List}
+use lib.ListN.{length, take, replicate}
 use lib.Seq.{take-append-seam}
-use Rattle.protocol.specs.declared.Answer.the-variants.{Accepted}
 use Rattle.protocol.specs.Bytes.{padded}
-use Rattle.protocol.specs.Numbers.{answerNumber}
-use Rattle.protocol.specs.Opening.{Condition, _↣_, Answers}
 use Rattle.proxy_url_spec.specs.Grammar.{Value, Line}
-use Rattle.proxy_url_spec.specs.Place.{Place}
 use Rattle.proxy_url_spec.specs.Reading.{Read, reads, dies, lineOf}
-use Rattle.proxy_url_spec.proofs.Places.{line-sound, line-complete, line-once, line-dies, line-place, place-once, part-taken, line-host}
+use Rattle.proxy_url_spec.proofs.Places.{line-sound, line-once, line-dies, line-place, place-once, part-taken, line-host}
 use Rattle.proxy_url.specs.Coded.{isGiven, userOf, passwordOf}
-use Rattle.proxy_url.specs.Calls.{badLine, refusedAt, acceptedAs, lineCoded, readOf}
-use Rattle.proxy_url.specs.Reads.{givenBy, told, Unlawful, Empty, ReadsLine, ReadsEach}
+use Rattle.proxy_url.specs.Calls.{refusedAt, acceptedAs, lineCoded, readOf}
+use Rattle.proxy_url.specs.Reads.{givenBy, told, Unlawful, ReadsLine, ReadsEach}
 
 -- an answer tells the value that it was made of
 given-is : (c : Option (List ℕ × List ℕ))

@@ -1,6 +1,6 @@
 -- F-9: what the call that reads a line answers, for any line.
 use Prim.Native.Nat.{ℕ}
-use mathlib.Core.Bool.{true, false}
+use mathlib.Core.Bool.{false}
 use mathlib.Core.List.{List}
 use lib.ListN.{length}
 use Rattle.protocol.specs.declared.SocksError.the-variants.{BadLine}

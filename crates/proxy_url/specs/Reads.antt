@@ -1,5 +1,5 @@
 -- F-9's promise: a line is accepted with a value exactly if the grammar has it with that value; otherwise the answer is 24, with its place.
-use Prim.Native.Nat.{ℕ, _≤_}
+use Prim.Native.Nat.{ℕ}
 use mathlib.Core.Path.{_≡_}
 use mathlib.Core.Logic.{_↔_}
 use mathlib.Core.Bool.{Bool, true, false}
@@ -9,7 +9,7 @@ use lib.ListN.{take, drop, replicate}
 use Rattle.protocol.specs.declared.Answer.the-variants.{Accepted}
 use Rattle.protocol.specs.declared.Version.the-variants.{V4}
 use Rattle.protocol.specs.Numbers.{answerNumber}
-use Rattle.protocol.specs.Opening.{Condition, _↣_, Answers}
+use Rattle.protocol.specs.Opening.{_↣_, Answers}
 use Rattle.proxy_url_spec.specs.Grammar.{Value, Line}
 use Rattle.proxy_url_spec.specs.Place.{Place}
 use Rattle.proxy_url.specs.declared.ProxyLine.{ProxyLine}

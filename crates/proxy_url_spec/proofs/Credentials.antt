@@ -1,21 +1,21 @@
 -- F-9: a user or a password is read as the grammar has it, up to the mark behind it.
-use Prim.Native.Nat.{ℕ, zero, suc, _+_, _*_, _≤_, _<_}
+use Prim.Native.Nat.{ℕ, _+_, _*_}
 use native.Mathlib.Omega.{arith}
-use mathlib.Core.Path.{_≡_, refl, sym, ap, subst, _∙_}
+use mathlib.Core.Path.{_≡_, refl, sym, ap, _∙_}
 use mathlib.Core.Bool.{Bool, true, false, cond, _||_, false≢true}
-use mathlib.Core.List.{List, [], _∷_, _++_, append-assoc}
+use mathlib.Core.List.{List, [], _∷_, _++_}
 use lib.Dec.{ltb, eqb}
-use lib.ListN.{length, getD}
-use borrow.Author.Tests.{ltb-true, ltb-false, eqb-true, eqb-false, lt-ltb, le-ltb, eq-eqb, ne-eqb}
+use lib.ListN.{getD}
+use borrow.Author.Tests.{ltb-true, ltb-false, eqb-true, lt-ltb, le-ltb}
 use Rattle.protocol.specs.AddressText.{Hex}
 use Rattle.protocol.specs.AddressReading.{hexValue}
 use Rattle.protocol.proofs.AddressDigits.{hex-value, value-hex, hex-small}
 use Rattle.proxy_url_spec.specs.Grammar.{Unreserved, upper, lower, digit, hyphen, dot, underscore, tilde, Escaped, end, as-is, escape, Credential}
-use Rattle.proxy_url_spec.specs.Reading.{Reader, one, or, map, seq, many, always, markOf, unreserved, same, isHex, hexOf, pairOf, secondOf, escapedOf, credentialOf}
+use Rattle.proxy_url_spec.specs.Reading.{one, map, seq, always, markOf, unreserved, same, isHex, hexOf, pairOf, secondOf, escapedOf, credentialOf}
 use Rattle.proxy_url_spec.proofs.Readers as R
 use Rattle.proxy_url_spec.proofs.Readers.{Any, Inhabited, Law, law-as, Image, some-image, law-map, Joined, some-joined, law-seq, Or, Apart, law-or}
 use Rattle.proxy_url_spec.proofs.Fields as F
-use Rattle.proxy_url_spec.proofs.Fields.{Is, law-word, Passes, law-one, Then, Row, Marked, law-marked}
+use Rattle.proxy_url_spec.proofs.Fields.{Is, law-word, Passes, law-one, Then, Row, law-marked}
 
 -- ---- unreserved bytes
 

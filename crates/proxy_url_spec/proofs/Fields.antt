@@ -5,10 +5,9 @@ use mathlib.Core.Path.{_≡_, refl, sym, ap, subst, _∙_}
 use mathlib.Core.Bool.{Bool, true, false, cond}
 use mathlib.Core.List.{List, [], _∷_, _++_, append-assoc, append-nil}
 use lib.Dec.{eqb}
-use lib.ListN.{length, take, drop, length-append, length-drop, take-append-drop}
-use lib.Seq.{take-at, drop-at, drop-append-le, take-append-le, length-take-le}
-use borrow.Author.Tests.{eqb-true, eqb-false, eq-eqb, ne-eqb}
-use Rattle.proxy_url_spec.specs.Reading.{Read, reads, dies, Reader, common, word, one, consed, always, map, seq, or, many}
+use lib.ListN.{length, length-append}
+use borrow.Author.Tests.{eqb-true, eq-eqb}
+use Rattle.proxy_url_spec.specs.Reading.{reads, dies, Reader, common, word, one, consed, always, map, seq, many}
 use Rattle.proxy_url_spec.proofs.Readers as R
 use Rattle.proxy_url_spec.proofs.Readers.{Any, Found, Alive, Inhabited, Law, reads-not-dies, Image, law-map, Joined, law-seq, Or, Apart, law-or}
 

@@ -1,27 +1,22 @@
 -- F-9: a host and the colon behind it are read as the grammar has them.
-use Prim.Native.Nat.{ℕ, zero, suc, _+_, _≤_, _<_}
+use Prim.Native.Nat.{ℕ, _≤_}
 use native.Mathlib.Omega.{arith}
 use mathlib.Core.Path.{_≡_, refl, sym, ap, subst, _∙_}
-use mathlib.Core.Bool.{Bool, true, false, _&&_, not, false≢true}
-use mathlib.Core.List.{List, [], _∷_, _++_, append-assoc, append-nil}
-use lib.Dec.{leb, eqb}
+use mathlib.Core.Bool.{true, not, false≢true}
+use mathlib.Core.List.{List, [], _∷_, _++_}
+use lib.Dec.{eqb}
 use lib.ListN.{length, getD}
 use borrow.Author.Tests.{leb-true, le-leb, eqb-false, ne-eqb, not-true}
-use Rattle.protocol.specs.AddressText.{Ipv6}
 use Rattle.proxy_url_spec.specs.Grammar as G
 use Rattle.proxy_url_spec.specs.Grammar.{HostByte, HostBytes, Host, ipv6, bytes}
-use Rattle.proxy_url_spec.specs.Reading.{Reader, one, map, seq, many, or, always, markOf, same, consed, Hosted, bracketed, named, ipv6TextOf, bracketsOf, hostByte, nameOf, hostOf}
+use Rattle.proxy_url_spec.specs.Reading.{Reader, one, map, seq, many, always, markOf, same, consed, Hosted, bracketed, named, ipv6TextOf, bracketsOf, hostByte, nameOf, hostOf}
 use Rattle.proxy_url_spec.proofs.Readers as R
-use Rattle.proxy_url_spec.proofs.Readers.{Any, Inhabited, Law, law-as, Image, some-image, law-map, Joined, some-joined, law-seq, Or, Apart, law-or}
+use Rattle.proxy_url_spec.proofs.Readers.{Any, Inhabited, Law, law-as, Image, law-map, Joined, some-joined, law-seq, Or, Apart, law-or}
 use Rattle.proxy_url_spec.proofs.Fields as F
 use Rattle.proxy_url_spec.proofs.Fields.{Is, law-word, Passes, law-one, Then, Row, Marked, law-marked}
-use Rattle.proxy_url_spec.proofs.Texts.{TextWord, law-text, text-some}
+use Rattle.proxy_url_spec.proofs.Texts.{both-true, TextWord, law-text, text-some}
 
 -- ---- host bytes
-
-both : (a b : Bool) → (a && b) ≡ true → (a ≡ true) × (b ≡ true)
-both true b e = (refl, e)
-both false b e = absurd (false≢true e)
 
 other-than : (b m : ℕ) → not (eqb b m) ≡ true → b ≡ m → ⊥
 other-than b m e = eqb-false b m (not-true (eqb b m) e)
@@ -29,13 +24,13 @@ other-than b m e = eqb-false b m (not-true (eqb b m) e)
 pub host-byte-is : (b : ℕ) → hostByte b ≡ true → HostByte b
 unfolding hostByte
 host-byte-is b e =
-    let (r, e1) = both _ _ e in
-    let (l, h) = both _ _ r in
-    let (slash, e2) = both _ _ e1 in
-    let (at, e3) = both _ _ e2 in
-    let (percent, e4) = both _ _ e3 in
-    let (colon, e5) = both _ _ e4 in
-    let (open′, close) = both _ _ e5 in
+    let (r, e1) = both-true _ _ e in
+    let (l, h) = both-true _ _ r in
+    let (slash, e2) = both-true _ _ e1 in
+    let (at, e3) = both-true _ _ e2 in
+    let (percent, e4) = both-true _ _ e3 in
+    let (colon, e5) = both-true _ _ e4 in
+    let (open′, close) = both-true _ _ e5 in
     record {
       low = leb-true 0x21 b l;
       high = leb-true b 0x7E h;

@@ -7,3 +7,4 @@ pub mod Texts
 pub mod Hosts
 pub mod Lines
 pub mod Places
+pub mod Examples

@@ -1,22 +1,21 @@
 -- F-9: a line is read as the grammar has it.
-use Prim.Native.Nat.{ℕ, zero, suc, _+_, _≤_, _<_}
+use Prim.Native.Nat.{ℕ, _+_, _<_}
 use native.Mathlib.Omega.{arith}
-use mathlib.Core.Path.{_≡_, refl, sym, ap, subst, _∙_}
-use mathlib.Core.Bool.{Bool, true, false}
-use mathlib.Core.Option.{Option, none, some}
+use mathlib.Core.Path.{_≡_, refl, sym, ap, _∙_}
+use mathlib.Core.Bool.{Bool}
+use mathlib.Core.Option.{none, some}
 use mathlib.Core.List.{List, [], _∷_, _++_, append-assoc, append-nil}
-use lib.ListN.{length, getD, length-append}
+use lib.ListN.{length, length-append}
 use lib.Seq.{getD-append-seam}
 use Rattle.protocol.specs.declared.Version.{Version}
 use Rattle.protocol.specs.declared.Version.the-variants.{V4, V5}
 use Rattle.protocol.specs.AddressText.{Decimal, digit, upper, lower}
-use Rattle.ipv6_beginnings.proofs.Extent as E
 use Rattle.ipv6_beginnings.proofs.Extent.{All, all-append, all-at, Byte, hex, colon, dot, ipv6-bytes}
 use Rattle.proxy_url_spec.specs.Grammar as G
 use Rattle.proxy_url_spec.specs.Grammar.{Scheme, Credential, HostBytes, Host, ipv6, bytes, Port, Value, Line, without-credentials, with-credentials}
-use Rattle.proxy_url_spec.specs.Reading.{Reader, map, seq, or, always, Hosted, Rest, plainRest, hostOf, portOf, plainOf, credentialOf, credentialRest, withOf, restOf, restBy, valueBy, schemeOf, lineOf, unreserved, hostByte}
+use Rattle.proxy_url_spec.specs.Reading.{seq, always, Rest, plainRest, hostOf, portOf, plainOf, credentialOf, credentialRest, withOf, restOf, restBy, valueBy, schemeOf, lineOf, unreserved, hostByte}
 use Rattle.proxy_url_spec.proofs.Readers as R
-use Rattle.proxy_url_spec.proofs.Readers.{Any, Nothing, Inhabited, Law, law-as, Image, some-image, law-map, Joined, some-joined, law-seq, Or, Apart, law-or}
+use Rattle.proxy_url_spec.proofs.Readers.{Any, Nothing, Inhabited, Law, law-as, Image, law-map, Joined, some-joined, law-seq, Or, Apart, law-or}
 use Rattle.proxy_url_spec.proofs.Fields.{Then}
 use Rattle.proxy_url_spec.proofs.Schemes.{SchemeWord, law-scheme}
 use Rattle.proxy_url_spec.proofs.Credentials.{CredentialWord, law-credential}

@@ -1,13 +1,13 @@
 -- F-9: a line is accepted exactly if the grammar has it, one reading exists, and a line that is not dies at its place, of which there is one.
-use Prim.Native.Nat.{ℕ, zero, suc, _+_, _≤_, _<_}
+use Prim.Native.Nat.{ℕ, suc, _+_, _≤_, _<_}
 use native.Mathlib.Omega.{arith}
-use mathlib.Core.Path.{_≡_, refl, sym, ap, subst, _∙_}
+use mathlib.Core.Path.{_≡_, refl, sym, ap, _∙_}
 use mathlib.Core.Bool.{Bool, true, false}
 use mathlib.Core.Logic.{_↔_}
 use mathlib.Core.List.{List, [], _∷_, _++_, append-assoc, append-nil}
 use lib.Dec.{leb}
 use lib.ListN.{length, take, drop, length-append, take-append-drop}
-use lib.Seq.{take-at, drop-at, take-append-seam, drop-append-add, take-append-le, length-take-le, take-length}
+use lib.Seq.{take-at, drop-at, take-append-seam, length-take-le, take-length}
 use borrow.Author.Tests.{leb-true, leb-false}
 use Rattle.proxy_url_spec.specs.Grammar.{Host, ipv6, bytes, Value, Line, without-credentials, with-credentials}
 use Rattle.proxy_url_spec.specs.Place.{GoesOn, Place}

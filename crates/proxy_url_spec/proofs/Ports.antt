@@ -1,18 +1,18 @@
 -- F-9: a port is read as the grammar has it, up to the text's end.
-use Prim.Native.Nat.{ℕ, zero, suc, _+_, _*_, _≤_, _<_}
+use Prim.Native.Nat.{ℕ, _+_, _*_, _≤_, _<_}
 use native.Mathlib.Omega.{arith}
-use mathlib.Core.Path.{_≡_, refl, sym, ap, subst, _∙_}
+use mathlib.Core.Path.{_≡_, refl, sym, ap, _∙_}
 use mathlib.Core.Bool.{Bool, true, false, cond, false≢true}
 use mathlib.Core.List.{List, [], _∷_, _++_, append-assoc, append-nil}
 use lib.Dec.{ltb, eqb}
 use lib.ListN.{length, length-append}
-use borrow.Author.Tests.{ltb-true, ltb-false, eqb-true, eqb-false, lt-ltb, le-ltb, eq-eqb, ne-eqb}
+use borrow.Author.Tests.{ltb-true, eqb-true, eqb-false, lt-ltb, eq-eqb, ne-eqb}
 use Rattle.protocol.specs.declared.Digits.{Digits}
-use Rattle.protocol.specs.AddressText.{Decimal, Hex, digit, upper, lower}
+use Rattle.protocol.specs.AddressText.{digit}
 use Rattle.protocol.specs.AddressReading.{hexValue, digitsFrom}
-use Rattle.protocol.proofs.AddressDigits.{hex-value, value-hex, Took, taken, ended}
+use Rattle.protocol.proofs.AddressDigits.{hex-value, value-hex, decimal-of, positive, digits-on, Took, taken, ended}
 use Rattle.proxy_url_spec.specs.Grammar.{Port, one, more}
-use Rattle.proxy_url_spec.specs.Reading.{Read, reads, dies, portGoes, portBy, portOf}
+use Rattle.proxy_url_spec.specs.Reading.{reads, dies, portGoes, portBy, portOf}
 use Rattle.proxy_url_spec.proofs.Readers.{Nothing, Found, Alive, Law, reads-not-dies}
 
 -- ---- which digits may follow
@@ -44,11 +44,6 @@ goes-later v n d l h m = rw (lt-ltb d 10 (omega arith), ne-eqb v 0 (λ e. absurd
 
 -- ---- the digits taken are of the grammar
 
-decimal-of : {b d : ℕ} → Hex b d → d ≤ 9 → Decimal b d
-decimal-of (digit x) h = x
-decimal-of (upper l k e) h = absurd (omega arith)
-decimal-of (lower l k e) h = absurd (omega arith)
-
 port-long : {p : List ℕ} {v : ℕ} → Port p v → 1 ≤ length p
 port-long (one x) = omega arith
 port-long (more {p} {v} {a} n l x m) = rw (length-append p (a ∷ [])) (omega arith)
@@ -58,10 +53,6 @@ port-first b e =
     let h = goes-is 0 0 (hexValue b) e .small in
     let z : 0 * 10 + hexValue b ≡ hexValue b = omega arith in
     rw z (one (decimal-of (value-hex b (omega arith)) h))
-
-positive : (w : ℕ) → (w ≡ 0 → ⊥) → 1 ≤ w
-positive zero f = absurd (f refl)
-positive (suc w) f = omega arith
 
 port-next : (p : List ℕ) (v b : ℕ) → Port p v → portGoes v (length p) (hexValue b) ≡ true → Port (p ++ (b ∷ [])) (v * 10 + hexValue b)
 port-next p v b n e =
@@ -78,15 +69,11 @@ port-taken s h = taken portGoes 10 Port port-first port-next s h
 
 -- ---- the grammar's digits are taken
 
-digits-on : (v n b : ℕ) (s : List ℕ) {d : ℕ} → hexValue b ≡ d → portGoes v n d ≡ true → digitsFrom portGoes 10 v n (b ∷ s) ≡ digitsFrom portGoes 10 (v * 10 + d) (n + 1) s
-unfolding digitsFrom
-digits-on v n b s e g = rw (e, g)
-
 port-runs : {p : List ℕ} {v : ℕ} → Port p v → (s : List ℕ) → digits (p ++ s) ≡ digitsFrom portGoes 10 v (length p) s
-port-runs (one {a} {d} x) s = let e : 0 * 10 + d ≡ d = omega arith in rw e at (digits-on 0 0 a s (hex-value (digit x)) (goes-first d (x .small)))
+port-runs (one {a} {d} x) s = let e : 0 * 10 + d ≡ d = omega arith in rw e at (digits-on portGoes 10 0 0 a s (hex-value (digit x)) (goes-first d (x .small)))
 port-runs (more {p} {v} {a} {d} n l x m) s =
     rw (append-assoc p (a ∷ []) s, length-append p (a ∷ []))
-    (port-runs n (a ∷ s) ∙ digits-on v (length p) a s (hex-value (digit x)) (goes-later v (length p) d l (x .small) m))
+    (port-runs n (a ∷ s) ∙ digits-on portGoes 10 v (length p) a s (hex-value (digit x)) (goes-later v (length p) d l (x .small) m))
 
 port-reads : {p : List ℕ} {v : ℕ} → Port p v → digits (p ++ []) ≡ record { count = length p; value = v }
 unfolding digitsFrom

@@ -1,15 +1,15 @@
 -- F-9's readers: four laws of a field, and that readers made of others keep them.
-use Prim.Native.Nat.{ℕ, zero, suc, _+_, _≤_, _<_, max}
+use Prim.Native.Nat.{ℕ, _+_, _≤_, _<_, max}
 use native.Mathlib.Omega.{arith}
 use mathlib.Core.Path.{_≡_, refl, sym, ap, subst, _∙_}
 use mathlib.Core.Logic.{_⊎_, inl, inr}
-use mathlib.Core.Bool.{Bool, true, false, cond}
-use mathlib.Core.List.{List, [], _∷_, _++_, append-assoc, append-nil}
+use mathlib.Core.Bool.{Bool, true, false}
+use mathlib.Core.List.{List, [], _++_, append-assoc}
 use lib.ListN.{length, take, drop, length-append, length-drop, take-append-drop}
 use lib.Seq.{take-at, drop-at, drop-append-le, take-append-le}
 use lib.Dec.{leb}
 use borrow.Author.Tests.{leb-true, leb-false}
-use Rattle.proxy_url_spec.specs.Reading.{Read, reads, dies, Reader, mapped, map, behind, onward, seq, later, either, or}
+use Rattle.proxy_url_spec.specs.Reading.{Read, reads, dies, Reader, mapped, map, behind, onward, seq, either, or}
 
 -- what stands behind a word: anything, or nothing
 abbrev pub Any : List ℕ → Type 0

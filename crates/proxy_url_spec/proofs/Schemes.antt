@@ -3,12 +3,12 @@ use Prim.Native.Nat.{ℕ, _<_}
 use native.Mathlib.Omega.{arith}
 use mathlib.Core.Path.{_≡_, refl, sym, ap, _∙_}
 use mathlib.Core.Bool.{Bool, true, false}
-use mathlib.Core.List.{List, [], _∷_, _++_}
+use mathlib.Core.List.{List, _++_}
 use lib.ListN.{length, getD, List·getD-append}
 use Rattle.protocol.specs.declared.Version.{Version}
 use Rattle.protocol.specs.declared.Version.the-variants.{V4, V5}
 use Rattle.proxy_url_spec.specs.Grammar.{Scheme, socks4, socks4a, socks5, socks5h}
-use Rattle.proxy_url_spec.specs.Reading.{Reader, word, or, schemeOf}
+use Rattle.proxy_url_spec.specs.Reading.{socks4Word, socks4aWord, socks5Word, socks5hWord, Reader, word, or, schemeOf}
 use Rattle.proxy_url_spec.proofs.Readers.{Any, Law, law-as, Or, one, other, Apart, law-or}
 use Rattle.proxy_url_spec.proofs.Fields.{Is, law-word}
 
@@ -22,32 +22,20 @@ pub or-apart : {A : Type 0} {Ok : List ℕ → Type 0} {W X Y : List ℕ → A �
 or-apart f g w t v a o x r u (one b) q e = f w t v a o x r u b q e
 or-apart f g w t v a o x r u (other b) q e = g w t v a o x r u b q e
 
-abbrev w4 : List ℕ
-w4 = 0x73 ∷ 0x6F ∷ 0x63 ∷ 0x6B ∷ 0x73 ∷ 0x34 ∷ 0x3A ∷ 0x2F ∷ 0x2F ∷ []
-
-abbrev w4a : List ℕ
-w4a = 0x73 ∷ 0x6F ∷ 0x63 ∷ 0x6B ∷ 0x73 ∷ 0x34 ∷ 0x61 ∷ 0x3A ∷ 0x2F ∷ 0x2F ∷ []
-
-abbrev w5 : List ℕ
-w5 = 0x73 ∷ 0x6F ∷ 0x63 ∷ 0x6B ∷ 0x73 ∷ 0x35 ∷ 0x3A ∷ 0x2F ∷ 0x2F ∷ []
-
-abbrev w5h : List ℕ
-w5h = 0x73 ∷ 0x6F ∷ 0x63 ∷ 0x6B ∷ 0x73 ∷ 0x35 ∷ 0x68 ∷ 0x3A ∷ 0x2F ∷ 0x2F ∷ []
-
 abbrev Named : List ℕ → Version → Bool → List ℕ → Version × Bool → Type 0
 Named w v dns = Is w (v, dns)
 
 abbrev Last : List ℕ → Version × Bool → Type 0
-Last = Named w5h V5 false
+Last = Named socks5hWord V5 false
 
 abbrev Last2 : List ℕ → Version × Bool → Type 0
-Last2 = Or (Named w5 V5 true) Last
+Last2 = Or (Named socks5Word V5 true) Last
 
 abbrev Last3 : List ℕ → Version × Bool → Type 0
-Last3 = Or (Named w4a V4 false) Last2
+Last3 = Or (Named socks4aWord V4 false) Last2
 
 abbrev Four : List ℕ → Version × Bool → Type 0
-Four = Or (Named w4 V4 true) Last3
+Four = Or (Named socks4Word V4 true) Last3
 
 abbrev pub SchemeWord : List ℕ → Version × Bool → Type 0
 SchemeWord w t = Scheme w (t .0) (t .1)
@@ -56,10 +44,10 @@ named : (w x : List ℕ) (v : Version) (dns : Bool) (t : Version × Bool) → Na
 named w x v dns t i s = rw (i .spelt, i .value) s
 
 scheme-of : (w : List ℕ) (t : Version × Bool) → Four w t → SchemeWord w t
-scheme-of w t (one i) = named w4 w V4 true t i socks4
-scheme-of w t (other (one i)) = named w4a w V4 false t i socks4a
-scheme-of w t (other (other (one i))) = named w5 w V5 true t i socks5
-scheme-of w t (other (other (other i))) = named w5h w V5 false t i socks5h
+scheme-of w t (one i) = named socks4Word w V4 true t i socks4
+scheme-of w t (other (one i)) = named socks4aWord w V4 false t i socks4a
+scheme-of w t (other (other (one i))) = named socks5Word w V5 true t i socks5
+scheme-of w t (other (other (other i))) = named socks5hWord w V5 false t i socks5h
 
 of-scheme-by : {w : List ℕ} {v : Version} {dns : Bool} → Scheme w v dns → Four w (v, dns)
 of-scheme-by socks4 = one (record { spelt = refl; value = refl })
@@ -68,23 +56,23 @@ of-scheme-by socks5 = other (other (one (record { spelt = refl; value = refl }))
 of-scheme-by socks5h = other (other (other (record { spelt = refl; value = refl })))
 
 abbrev R5h : Reader (Version × Bool)
-R5h = word w5h (V5, false)
+R5h = word socks5hWord (V5, false)
 
 abbrev R5 : Reader (Version × Bool)
-R5 = word w5 (V5, true)
+R5 = word socks5Word (V5, true)
 
 abbrev R4a : Reader (Version × Bool)
-R4a = word w4a (V4, false)
+R4a = word socks4aWord (V4, false)
 
 law-four : Law Any Four schemeOf
 unfolding schemeOf
 law-four =
-    law-or Any (Named w4 V4 true) Last3 (word w4 (V4, true)) (or R4a (or R5 R5h)) (law-word w4 (V4, true))
-    (law-or Any (Named w4a V4 false) Last2 R4a (or R5 R5h) (law-word w4a (V4, false))
-    (law-or Any (Named w5 V5 true) Last R5 R5h (law-word w5 (V5, true)) (law-word w5h (V5, false)) (words-apart w5 w5h (V5, true) (V5, false) 6 (omega arith) (omega arith) (λ e. omega arith)))
-    (or-apart (words-apart w4a w5 (V4, false) (V5, true) 5 (omega arith) (omega arith) (λ e. omega arith)) (words-apart w4a w5h (V4, false) (V5, false) 5 (omega arith) (omega arith) (λ e. omega arith))))
-    (or-apart (words-apart w4 w4a (V4, true) (V4, false) 6 (omega arith) (omega arith) (λ e. omega arith))
-    (or-apart (words-apart w4 w5 (V4, true) (V5, true) 5 (omega arith) (omega arith) (λ e. omega arith)) (words-apart w4 w5h (V4, true) (V5, false) 5 (omega arith) (omega arith) (λ e. omega arith))))
+    law-or Any (Named socks4Word V4 true) Last3 (word socks4Word (V4, true)) (or R4a (or R5 R5h)) (law-word socks4Word (V4, true))
+    (law-or Any (Named socks4aWord V4 false) Last2 R4a (or R5 R5h) (law-word socks4aWord (V4, false))
+    (law-or Any (Named socks5Word V5 true) Last R5 R5h (law-word socks5Word (V5, true)) (law-word socks5hWord (V5, false)) (words-apart socks5Word socks5hWord (V5, true) (V5, false) 6 (omega arith) (omega arith) (λ e. omega arith)))
+    (or-apart (words-apart socks4aWord socks5Word (V4, false) (V5, true) 5 (omega arith) (omega arith) (λ e. omega arith)) (words-apart socks4aWord socks5hWord (V4, false) (V5, false) 5 (omega arith) (omega arith) (λ e. omega arith))))
+    (or-apart (words-apart socks4Word socks4aWord (V4, true) (V4, false) 6 (omega arith) (omega arith) (λ e. omega arith))
+    (or-apart (words-apart socks4Word socks5Word (V4, true) (V5, true) 5 (omega arith) (omega arith) (λ e. omega arith)) (words-apart socks4Word socks5hWord (V4, true) (V5, false) 5 (omega arith) (omega arith) (λ e. omega arith))))
 
 pub law-scheme : Law Any SchemeWord schemeOf
 law-scheme = law-as scheme-of (λ w t s. of-scheme-by s) law-four

@@ -8,9 +8,9 @@ use mathlib.Core.Option.{Option, none, some}
 use mathlib.Core.Bool.{Bool, true, false, cond, _&&_, _||_, false≢true}
 use mathlib.Core.List.{List, [], _∷_, _++_, append-assoc, append-nil}
 use lib.Dec.{ltb, eqb}
-use lib.ListN.{replicate, length, getD, take, drop, length-append, List·getD-append, List·getD-eq-default}
+use lib.ListN.{replicate, length, take, drop, length-append, List·getD-append, List·getD-eq-default}
 use lib.Seq.{take-append-seam, take-append-le, getD-append-seam, split-at, length-take-le}
-use borrow.Author.Tests.{ltb-true, ltb-false, eqb-true, eq-eqb}
+use borrow.Author.Tests.{ltb-true, ltb-false, eqb-true}
 use Rattle.protocol.specs.Bytes.{byte}
 use Rattle.protocol.specs.AddressText.{Ipv6}
 use Rattle.protocol.specs.AddressReading.{ipv6Of, startsGap, joinOf, rightOf}
@@ -18,7 +18,7 @@ use Rattle.protocol.proofs.AddressIpv6.{ipv6-sound, ipv6-complete}
 use Rattle.ipv6_beginnings.specs.Endings.{endings}
 use Rattle.ipv6_beginnings.proofs.Extent.{ipv6-long, ipv6-no-bracket}
 use Rattle.ipv6_beginnings.proofs.Beginnings.{stops-by}
-use Rattle.proxy_url_spec.specs.Reading.{Read, reads, dies, isSome, ipv6By, ipv6GoesOn, along, ipv6End, closedBy, ipv6TextOf}
+use Rattle.proxy_url_spec.specs.Reading.{reads, dies, isSome, ipv6By, ipv6GoesOn, along, ipv6End, ipv6TextOf}
 use Rattle.proxy_url_spec.proofs.Readers.{Any, Found, Alive, Inhabited, Law, reads-not-dies}
 
 -- ---- as far as a test on beginnings passes
@@ -183,7 +183,7 @@ pub record TextWord (w s : List ℕ) : Type 0 where
   pub bytes : List ℕ
   pub is : Ipv6 s bytes
 
-both-true : (a b : Bool) → (a && b) ≡ true → (a ≡ true) × (b ≡ true)
+pub both-true : (a b : Bool) → (a && b) ≡ true → (a ≡ true) × (b ≡ true)
 both-true true b e = (refl, e)
 both-true false b e = absurd (false≢true e)
 
