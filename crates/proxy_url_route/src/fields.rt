@@ -3,8 +3,7 @@ ghost use mathlib.Core.Path.{_≡_};
 ghost use Prim.Native.Nat.{_+_, _*_, _≤_, _<_};
 ghost use lib.ListN.{length};
 ghost use Rattle.proxy_url.specs.Calls.{readOf};
-ghost use Rattle.buffers.specs.write.Written.{overwrite};
-ghost use Rattle.proxy_url_route.specs.Calls.{proxyAt, lineWritten};
+ghost use Rattle.proxy_url_route.specs.Calls.{fieldsWritten, lineWritten, proxyAt};
 use buffers::write::copy;
 use protocol::CREDENTIAL;
 use protocol::Port;
@@ -43,19 +42,34 @@ fn proxy_at(read: ProxyLine, at: usize) -> Proxy
     }
 }
 
+// A host, a user and a password, 255 bytes apart.
+fn put_fields(buffer: &mut [u8], at: usize, host: &[u8], user: &[u8], password: &[u8])
+    requires { ⌜ (at + 765 ≤ length (now buffer)) × ((length (now host) ≤ 255) × ((length (now user) ≤ 255) × (length (now password) ≤ 255))) ⌝ }
+    ensures { λ r. ⌜ now (buffer .exit) ≡ fieldsWritten at (now (host .entry)) (now (user .entry)) (now (password .entry)) (now (buffer .entry)) ⌝ }
+{
+    copy(buffer, at, host);
+    copy(buffer, at + CREDENTIAL, user);
+    copy(buffer, at + 2 * CREDENTIAL, password);
+}
+
+// The fields of a line at the place of its proxy, counted from 0.
 pub fn put_line(line: &[u8], index: usize, buffer: &mut [u8]) -> Proxy
     requires { ⌜ (index < 8) × (length (now buffer) ≡ 6120) ⌝ }
     ensures { λ r. ⌜ r ≡ proxyAt (index * 765) (readOf (now (line .entry))) ⌝ }
     ensures { λ r. ⌜ now (buffer .exit) ≡ lineWritten (index * 765) (now (line .entry)) (now (buffer .entry)) ⌝ }
 {
     let read = read(line);
-    let at = index * FIELDS;
-    copy(buffer, at, host(line, read));
     let user = read.user;
     let user_len = read.user_len;
-    copy(buffer, at + CREDENTIAL, &user[..user_len]);
     let password = read.password;
     let password_len = read.password_len;
-    copy(buffer, at + 2 * CREDENTIAL, &password[..password_len]);
+    let at = index * FIELDS;
+    put_fields(
+        buffer,
+        at,
+        host(line, read),
+        &user[..user_len],
+        &password[..password_len],
+    );
     proxy_at(read, at)
 }
