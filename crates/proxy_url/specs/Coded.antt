@@ -1,12 +1,12 @@
 -- F-9 as the code has it: what is read of a text, in structs and arrays.
-use Prim.Native.Nat.{ℕ, zero, suc}
-use mathlib.Core.Bool.{Bool, true, false, cond}
+use Prim.Native.Nat.{ℕ, _-_}
+use mathlib.Core.Bool.{Bool, true, false}
 use mathlib.Core.Option.{Option, none, some}
-use mathlib.Core.List.{List, [], _∷_}
+use mathlib.Core.List.{List, []}
 use lib.ListN.{length, replicate}
 use Rattle.protocol.specs.declared.Version.{Version}
 use Rattle.protocol.specs.declared.Version.the-variants.{V4}
-use Rattle.protocol.specs.Bytes.{padded}
+use Rattle.protocol.specs.Bytes.{byte, padded}
 use Rattle.proxy_url_spec.specs.Reading.{Read, reads, dies, Hosted, Rest}
 use Rattle.proxy_url.specs.declared.schemes.SchemeRead.{SchemeRead}
 use Rattle.proxy_url.specs.declared.credentials.EscapedRead.{EscapedRead}
@@ -32,11 +32,9 @@ abbrev pub passwordOf : Option (List ℕ × List ℕ) → List ℕ
 passwordOf none = []
 passwordOf (some c) = c .1
 
--- how many bytes, at most so many, pass a test
-unfoldable pub run : (ℕ → Bool) → ℕ → List ℕ → ℕ
-run test zero s = 0
-run test (suc k) [] = 0
-run test (suc k) (b ∷ s) = cond (test b) (suc (run test k s)) 0
+-- a test of a beginning's last byte
+unfoldable pub lastly : (ℕ → Bool) → List ℕ → Bool
+lastly test p = test (byte p (length p - 1))
 
 abbrev pub schemeCoded : Read (Version × Bool) → SchemeRead
 schemeCoded (reads t n) = record { found = true; next = n; version = t .0; local = t .1 }

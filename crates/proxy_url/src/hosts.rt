@@ -1,11 +1,11 @@
 // F-9: a host, an IPv6 text in brackets or 1 to 255 bytes, and the colon behind it.
 ghost use mathlib.Core.Path.{_≡_};
 ghost use mathlib.Core.Bool.{false};
-ghost use mathlib.Core.List.{_∷_};
+ghost use mathlib.Core.List.{[], _∷_};
 ghost use Prim.Native.Nat.{_+_, _≤_};
 ghost use lib.ListN.{length};
-ghost use Rattle.proxy_url_spec.specs.Reading.{ipv6By, ipv6GoesOn, ipv6End, bracketsOf, hostByte, nameOf, hostOf};
-ghost use Rattle.proxy_url.specs.Coded.{run, hostCoded};
+ghost use Rattle.proxy_url_spec.specs.Reading.{ipv6By, ipv6GoesOn, along, ipv6End, bracketsOf, hostByte, nameOf, hostOf};
+ghost use Rattle.proxy_url.specs.Coded.{lastly, hostCoded};
 use crate::texts::byte_at;
 use address_text::ipv6::read_ipv6;
 use buffers::write::copy;
@@ -99,18 +99,19 @@ fn read_brackets(text: &[u8]) -> HostRead
     ensures { λ r. ⌜ r ≡ hostCoded (bracketsOf (0x5B ∷ now (text .entry))) ⌝ }
 {
     let n = ipv6_end(text);
-    if byte_at(text, n) == b']' {
-        if is_ipv6(&text[..n], b"") {
-            if byte_at(text, n + 1) == b':' {
-                return HostRead {
-                    found: true,
-                    next: n + 3,
-                    at: 1,
-                    len: n,
-                };
-            }
-            return no_host(n + 2);
+    if byte_at(text, n) != b']' {
+        return no_host(n + 1);
+    }
+    if is_ipv6(&text[..n], b"") {
+        if byte_at(text, n + 1) == b':' {
+            return HostRead {
+                found: true,
+                next: n + 3,
+                at: 1,
+                len: n,
+            };
         }
+        return no_host(n + 2);
     }
     no_host(n + 1)
 }
@@ -119,13 +120,18 @@ fn read_brackets(text: &[u8]) -> HostRead
 fn is_host_byte(b: u8) -> bool
     ensures { λ r. ⌜ r ≡ hostByte b ⌝ }
 {
-    (0x21 <= b && b <= 0x7E)
-        && (b != b'/' && (b != b'@' && (b != b'%' && (b != b':' && (b != b'[' && b != b']')))))
+    if b < 0x21 {
+        return false;
+    }
+    if 0x7E < b {
+        return false;
+    }
+    b != b'/' && (b != b'@' && (b != b'%' && (b != b':' && (b != b'[' && b != b']'))))
 }
 
 // How many host bytes the text begins with, of at most 255.
 fn name_end(text: &[u8]) -> usize
-    ensures { λ r. ⌜ r ≡ run hostByte 255 (now (text .entry)) ⌝ }
+    ensures { λ r. ⌜ r ≡ along (lastly hostByte) 255 [] (now (text .entry)) ⌝ }
 {
     let end = least(text.len(), 255);
     let mut n: usize = 0;

@@ -90,7 +90,8 @@ pub fn read(line: &[u8]) -> ProxyLine
     let scheme = read_scheme(line);
     let at = scheme.next;
     if scheme.found {
-        let rest = read_rest(scheme.version, &line[at..]);
+        let version = scheme.version;
+        let rest = read_rest(version, &line[at..]);
         if rest.found {
             return accepted(scheme, rest, at + rest.at);
         }

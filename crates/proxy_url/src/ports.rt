@@ -14,7 +14,7 @@ pub struct PortRead {
 
 // Whether a digit may follow: a decimal one, not after a leading zero, within 65535.
 fn port_goes(value: usize, count: usize, digit: usize) -> bool
-    requires { ⌜ (value ≤ 65535) × (digit ≤ 16) ⌝ }
+    requires { ⌜ value ≤ 65535 ⌝ }
     ensures { λ r. ⌜ r ≡ portGoes value count digit ⌝ }
 {
     if 10 <= digit {
