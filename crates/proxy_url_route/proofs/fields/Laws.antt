@@ -7,7 +7,7 @@ use mathlib.Core.List.{List, [], _∷_, _++_}
 use lib.ListN.{length, take, drop, replicate, length-append, length-take, length-replicate}
 use lib.Seq.{length-take-le}
 use Rattle.protocol.specs.Bytes.{padded}
-use Rattle.ipv6_beginnings.proofs.Extent.{ipv6-long}
+use Rattle.proxy_url_spec.proofs.Ipv6Extent.{ipv6-long}
 use Rattle.buffers.specs.write.Written.{overwrite, Wrote}
 use Rattle.buffers.proofs.write.Laws.{length-overwrite}
 use Rattle.proxy_url_spec.specs.Grammar.{Host, ipv6, bytes, Value, Line, without-credentials, with-credentials}
