@@ -1,7 +1,7 @@
 -- What F-9's promise of a route from lines comes to. Each of its fields is used here.
 use Prim.Native.Nat.{ℕ, zero, suc, _+_, _-_, _≤_, _<_}
 use native.Mathlib.Omega.{arith}
-use mathlib.Core.Path.{_≡_, refl, sym, ap, subst, _∙_}
+use mathlib.Core.Path.{_≡_, refl, sym, ap, _∙_}
 use mathlib.Core.Logic.{_⊎_, inl, inr}
 use mathlib.Core.Bool.{Bool, true, false}
 use mathlib.Core.List.{List, [], _∷_, _++_, map, List·Memᴰ, List·Memᴰ·head, List·Memᴰ·tail, List·Memᴰ·not-nil, List·Memᴰ·cases-cons}
@@ -24,7 +24,6 @@ use Rattle.proxy_url.specs.Reads.{Unlawful}
 use Rattle.proxy_url_route.specs.Lines.{onto, split, linesOf}
 use Rattle.proxy_url_route.specs.Calls.{Call, readLines}
 use Rattle.proxy_url_route.specs.RoutesRead.{proxyFor, Values, end, line, SomeUnlawful, FirstUnlawful, here, later, Placed, OutsideAll, ReadsRoute}
-use Rattle.proxy_url_route.proofs.lines.Laws.{split-many}
 use Rattle.proxy_url_route.proofs.Promise.{some-unlawful, none-unlawful, reads-routes}
 
 -- ---- the lines of a text are the one row of lines without 0A that has this text with a 0A between them
