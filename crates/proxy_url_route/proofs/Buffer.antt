@@ -5,21 +5,19 @@ use mathlib.Core.Path.{_≡_, refl, sym, ap, _∙_}
 use mathlib.Core.Logic.{_⊎_, inl, inr}
 use mathlib.Core.Bool.{false}
 use mathlib.Core.List.{List, [], _∷_, _++_, map, append-assoc}
-use lib.ListN.{length, take, drop, getD, replicate, length-append, length-take, List·getD-append}
+use lib.ListN.{length, take, drop, getD, replicate, length-append, List·getD-append}
 use lib.Seq.{take-take, take-append-le, take-append-seam, drop-append-seam, take-add, drop-at, length-take-le, getD-take, getD-drop, getD-append-add}
 use Rattle.protocol.specs.declared.Port.the-variants.{Given}
 use Rattle.buffers.specs.write.Written.{overwrite}
 use Rattle.buffers.proofs.write.Laws.{length-overwrite}
-use Rattle.route_session.specs.declared.plan.Proxy.{Proxy}
 use Rattle.route_session.specs.plan.Plan.{proxyOf, proxiesOf}
 use Rattle.proxy_url_spec.specs.Grammar.{Value, Line}
-use Rattle.proxy_url_spec.specs.Reading.{reads, lineOf}
 use Rattle.proxy_url_spec.proofs.Places.{line-complete, line-host, part-taken}
 use Rattle.proxy_url.specs.Coded.{isGiven, userOf, passwordOf}
 use Rattle.proxy_url.specs.Calls.{acceptedAs, lineCoded, readOf}
 use Rattle.proxy_url_route.specs.Calls.{hostIn, userIn, passwordIn, fieldsWritten, lineWritten, writtenBy, proxyAt, proxiesFrom}
 use Rattle.proxy_url_route.specs.RoutesRead.{proxyFor, Values, end, line, Placed, Outside, OutsideAll}
-use Rattle.proxy_url_route.proofs.fields.Laws.{Few, few, length-fields, length-line}
+use Rattle.proxy_url_route.proofs.fields.Laws.{few, length-line}
 
 -- ---- a part goes by the bytes up to its end
 

@@ -1,24 +1,21 @@
 -- F-9's promise of a route from lines holds of every text.
 use Prim.Native.Nat.{ℕ, suc, _+_, _-_, _≤_, _<_}
 use native.Mathlib.Omega.{arith}
-use native.Mathlib.Numerals.{add-one}
 use mathlib.Core.Path.{_≡_, refl, sym, ap, subst, _∙_}
 use mathlib.Core.Logic.{_↔_, _⊎_, inl, inr, ⊎-elim}
 use mathlib.Core.Bool.{Bool, true, false}
-use mathlib.Core.List.{List, [], _∷_, _++_, map, append-nil, List·Memᴰ, List·Memᴰ·head, List·Memᴰ·tail, List·Memᴰ·not-nil, List·Memᴰ·cases-cons}
+use mathlib.Core.List.{List, [], _∷_, map, append-nil, List·Memᴰ·head, List·Memᴰ·tail, List·Memᴰ·not-nil, List·Memᴰ·cases-cons}
 use lib.Dec.{eqb, ltb, lit<}
-use lib.ListN.{length, take, drop, replicate}
+use lib.ListN.{length, take, replicate}
 use lib.Seq.{take-at, drop-at}
 use borrow.Author.Tests.{eqb-true, eqb-false, ltb-true, ltb-false}
 use Rattle.protocol.specs.declared.SocksError.the-variants.{RouteLength, BadLine}
-use Rattle.protocol.specs.declared.Answer.{Answer}
 use Rattle.protocol.specs.declared.Answer.the-variants.{Accepted}
 use Rattle.protocol.specs.declared.Port.{Port}
 use Rattle.protocol.specs.Numbers.{answerNumber}
 use Rattle.protocol.specs.Opening.{Answers, refuse}
 use Rattle.protocol.proofs.Openings.{all-passed, checked}
 use Rattle.route_spec.specs.Route as route
-use Rattle.route_session.specs.declared.plan.Proxy.{Proxy}
 use Rattle.route_session.specs.plan.Plan.{noProxy, proxiesOf, counted, routeOf}
 use Rattle.proxy_url_spec.specs.Grammar.{Value, Line}
 use Rattle.proxy_url_spec.specs.Reading.{Read, reads, dies, lineOf}
@@ -26,8 +23,8 @@ use Rattle.proxy_url_spec.proofs.Places.{line-sound, line-dies, line-place}
 use Rattle.proxy_url.specs.Calls.{readOf}
 use Rattle.proxy_url_route.specs.declared.RefusedLine.{RefusedLine}
 use Rattle.proxy_url_route.specs.Lines.{linesOf}
-use Rattle.proxy_url_route.specs.Calls.{Call, noneRefused, firstRefused, writtenBy, proxiesFrom, proxiesBy, unwritten, written, readBy, readLines}
-use Rattle.proxy_url_route.specs.RoutesRead.{proxyFor, Values, end, line, SomeUnlawful, FirstUnlawful, here, later, Placed, OutsideAll, conditions, IsRoute, ReadsRoute, ReadsRoutes}
+use Rattle.proxy_url_route.specs.Calls.{noneRefused, firstRefused, writtenBy, proxiesFrom, proxiesBy, unwritten, written, readBy, readLines}
+use Rattle.proxy_url_route.specs.RoutesRead.{proxyFor, Values, end, line, SomeUnlawful, FirstUnlawful, here, later, conditions, IsRoute, ReadsRoute, ReadsRoutes}
 use Rattle.proxy_url_route.proofs.Laws.{length-proxies, by-none, by-many, by-refused, by-lawful}
 use Rattle.proxy_url_route.proofs.Buffer.{length-written, other-bytes, proxies-read, placed-from}
 

@@ -1,10 +1,9 @@
 -- F-9: what is read of a line has room in its fields, and what is written there.
-use Prim.Native.Nat.{ℕ, _+_, _-_, _*_, _≤_, _<_}
+use Prim.Native.Nat.{ℕ, _+_, _-_, _≤_}
 use native.Mathlib.Omega.{arith}
 use mathlib.Core.Path.{_≡_, refl, sym, ap, subst, _∙_}
-use mathlib.Core.Option.{Option, none, some}
-use mathlib.Core.List.{List, [], _∷_, _++_}
-use lib.ListN.{length, take, drop, replicate, length-append, length-take, length-replicate}
+use mathlib.Core.List.{List}
+use lib.ListN.{length, drop, length-append, length-take, length-replicate}
 use lib.Seq.{length-take-le}
 use Rattle.protocol.specs.Bytes.{padded}
 use Rattle.proxy_url_spec.proofs.Ipv6Extent.{ipv6-long}

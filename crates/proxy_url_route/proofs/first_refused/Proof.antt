@@ -2,8 +2,7 @@ use borrow.Author.Needs.{needs}
 use native.Mathlib.Omega.{arith}
 use Prim.Native.Nat.{_-_, _≤_}
 use mathlib.Core.Path.{_≡_, refl, ap, sym, _∙_}
-use mathlib.Core.List.{List}
-use lib.ListN.{length, drop}
+use lib.ListN.{drop}
 use Rattle.proxy_url.specs.Calls.{readOf}
 use Rattle.proxy_url_route.specs.Lines.{split}
 use Rattle.proxy_url_route.specs.Calls.{firstRefused}

@@ -3,13 +3,13 @@ use Prim.Native.Nat.{ℕ, suc, _+_, _-_, _≤_, _<_}
 use native.Mathlib.Omega.{arith}
 use native.Mathlib.Numerals.{add-one}
 use mathlib.Core.Path.{_≡_, refl, sym, ap, _∙_}
-use mathlib.Core.Bool.{Bool, true, false, cond}
+use mathlib.Core.Bool.{Bool, true, false}
 use mathlib.Core.List.{List, [], _∷_}
 use lib.Dec.{eqb}
 use lib.ListN.{length, take, drop, getD, length-drop}
 use lib.Seq.{drop-cons, drop-drop, drop-length, getD-drop}
 use borrow.Author.Tests.{eq-eqb, ne-eqb}
-use Rattle.proxy_url_route.specs.Lines.{onto, split, marks, firstEnd}
+use Rattle.proxy_url_route.specs.Lines.{split, marks, firstEnd}
 
 -- ---- marks, one after the other
 

@@ -1,8 +1,7 @@
 use borrow.Author.Needs.{needs}
 use native.Mathlib.Omega.{arith}
 use Prim.Native.Nat.{_-_}
-use mathlib.Core.Path.{_≡_, sym, _∙_}
-use lib.ListN.{length}
+use mathlib.Core.Path.{sym, _∙_}
 use Rattle.proxy_url_route.specs.Lines.{split}
 use Rattle.proxy_url_route.proofs.Laws.{Filled, filled-none, filled-more, filled-all}
 use Rattle.proxy_url_route.proofs.put_lines.Statement.{statement}

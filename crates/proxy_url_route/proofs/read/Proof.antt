@@ -1,7 +1,5 @@
 use borrow.Author.Needs.{needs}
 use native.Mathlib.Omega.{arith}
-use Prim.Native.Nat.{_+_}
-use mathlib.Core.Path.{_≡_, sym, ap, _∙_}
 use Rattle.proxy_url_route.proofs.lines.Laws.{counted-lines}
 use Rattle.proxy_url_route.proofs.Laws.{read-none, read-many, read-refused, read-lawful}
 use Rattle.proxy_url_route.proofs.read.Statement.{statement}

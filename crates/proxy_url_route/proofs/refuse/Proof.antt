@@ -1,8 +1,4 @@
 use borrow.Author.Needs.{needs}
-use mathlib.Core.Path.{_≡_, ap}
-use Rattle.protocol.specs.declared.Answer.the-variants.{Refused}
-use Rattle.route_session.specs.declared.plan.Proxy.{Proxy}
-use Rattle.proxy_url_route.specs.Calls.{refusedWith}
 use Rattle.proxy_url_route.proofs.refuse.Statement.{statement}
 use Rattle.proxy_url_route.proofs.refuse.Tie as tie
 

@@ -1,6 +1,5 @@
 use borrow.Author.Needs.{needs}
-use native.Mathlib.Omega.{arith}
-use mathlib.Core.Path.{_≡_, ap, _∙_}
+use mathlib.Core.Path.{ap, _∙_}
 use Prim.Native.Nat.{_*_}
 use Rattle.proxy_url.specs.declared.ProxyLine.{ProxyLine}
 use Rattle.proxy_url_route.specs.Calls.{proxyAt}
