@@ -15,11 +15,12 @@ ghost use Rattle.captures.specs.Coded.{way, Within, Passes};
 use crate::entries::head_at;
 use client_session::Session;
 use client_session::Started;
+use protocol::OUTPUT_V5;
 use protocol::Outcome;
 use protocol::REQUESTS;
 
-// All that a session sends fits, and behind it the output that a delivery asks: REQUESTS and OUTPUT_V5.
-const DUE: usize = 1802;
+// All that a session sends fits, and behind it the output that a delivery asks.
+const DUE: usize = REQUESTS + OUTPUT_V5;
 
 // Behind some entries: the session, how many bytes are due, how many of these were sent, and whether the last entry was lawful.
 struct Course {
