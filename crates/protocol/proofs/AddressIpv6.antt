@@ -21,39 +21,18 @@ use Rattle.protocol.proofs.AddressIpv4.{ipv4-sound, ipv4-complete}
 
 -- ---- a number's digits are a group's
 
-ten : ℕ → ℕ
-ten zero = 1
-ten (suc n) = 10 * ten n
+two-digits : {p : List ℕ} {v : ℕ} → Number p v → v ≤ 25 → length p ≤ 2
+two-digits (G.one x) h = omega arith
+two-digits (G.more (G.one x) l y m) h = omega arith
+two-digits (G.more (G.more n k x o) l y m) h = absurd (omega arith)
 
-ten-pos : (n : ℕ) → 1 ≤ ten n
-unfolding ten
-ten-pos zero = omega arith
-ten-pos (suc n) = let i = ten-pos n in omega arith
+pub number-short : {p : List ℕ} {v : ℕ} → Number p v → length p ≤ 3
+number-short (G.one x) = omega arith
+number-short (G.more {p} {v} {a} n l x m) = omega (arith, two-digits n (omega arith), length-append p (a ∷ []))
 
-number-ten : {p : List ℕ} {v : ℕ} → Number p v → 1 ≤ v → ten (length p) ≤ 10 * v
-unfolding ten
-number-ten (G.one x) h = omega arith
-number-ten (G.more {p} {v} {a} {d} n l x m) h =
-    let i = number-ten n l in
-    rw (length-append p (a ∷ []), add-one) (omega arith)
-
-thousand : (t : ℕ) → 1 ≤ t → 10 * (10 * (10 * t)) ≤ 250 → ⊥
-thousand t l k = absurd (omega arith)
-
-ten-two : (n : ℕ) → ten n ≤ 250 → n ≤ 2
-unfolding ten
-ten-two zero h = omega arith
-ten-two (suc zero) h = omega arith
-ten-two (suc (suc zero)) h = omega arith
-ten-two (suc (suc (suc n))) h = absurd (thousand (ten n) (ten-pos n) h)
-
-number-group : {p : List ℕ} {v : ℕ} → Number p v → (w : ℕ) × Group p w
-number-group (G.one {a} {d} x) = (d, G.one (digit x))
-number-group (G.more {p} {v} {a} {d} n l x m) =
-    let (w, g) = number-group n in
-    let t = number-ten n l in
-    let k = ten-two (length p) (omega arith) in
-    (w * 16 + d, G.more g (omega arith) (digit x))
+pub number-group : {p : List ℕ} {v : ℕ} → Number p v → (w : ℕ) × Group p w
+number-group (G.one x) = (_, G.one (digit x))
+number-group (G.more n l x m) = let (w, g) = number-group n in (_, G.more g (omega (arith, number-short n)) (digit x))
 
 -- ---- no group begins with a colon
 

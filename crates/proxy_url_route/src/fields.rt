@@ -14,7 +14,7 @@ use route_session::plan::Part;
 use route_session::plan::Proxy;
 
 // How many bytes a proxy's three fields take.
-const FIELDS: usize = 765;
+pub const FIELDS: usize = 3 * CREDENTIAL;
 
 // The proxy of a line, whose host, user and password stand from a place on.
 fn proxy_at(read: ProxyLine, at: usize) -> Proxy

@@ -10,6 +10,7 @@ ghost use Rattle.protocol.specs.declared.Answer.the-variants as Answer;
 ghost use Rattle.route_session.specs.plan.Plan.{noProxy};
 ghost use Rattle.proxy_url_route.specs.Lines.{split};
 ghost use Rattle.proxy_url_route.specs.Calls.{accepts, firstRefused, refusedWith, writtenBy, proxiesBy, RouteResult, readLines};
+use crate::fields::FIELDS;
 use crate::fields::put_line;
 use crate::lines::line_at;
 use crate::lines::mark_count;
@@ -22,7 +23,7 @@ use route_session::plan::Part;
 use route_session::plan::Proxy;
 
 // What hosts and credentials of a route's proxies take: eight proxies, three fields each, of at most 255 bytes.
-pub const ROUTE_TEXT: usize = 6120;
+pub const ROUTE_TEXT: usize = PROXIES * FIELDS;
 
 // The proxies of a route and their count, as the route's opening takes them with the buffer as its text. Or a refusal, beside which
 // there are none: with 24 the line's number, counted from 1, and the place in it.

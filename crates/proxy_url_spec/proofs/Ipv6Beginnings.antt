@@ -9,9 +9,9 @@ use Rattle.protocol.specs.Bytes.{two}
 use Rattle.protocol.specs.AddressText as G
 use Rattle.protocol.specs.AddressText.{Decimal, digit, Number, Dotted, Group, Groups, Tail, Left, Right, Ipv6}
 use Rattle.protocol.specs.AddressReading.{ipv6Of}
-use Rattle.protocol.proofs.AddressIpv6.{dotted-length, ipv6-complete}
+use Rattle.protocol.proofs.AddressIpv6.{dotted-length, ipv6-complete, number-group}
 use Rattle.proxy_url_spec.specs.Ipv6Endings.{endings}
-use Rattle.proxy_url_spec.proofs.Ipv6Extent.{All, groups-tail, number-group}
+use Rattle.proxy_url_spec.proofs.Ipv6Extent.{All, groups-tail}
 
 -- ---- where a text p, that goes on by q, stops: before c, or behind it
 

@@ -6,26 +6,13 @@ use mathlib.Core.List.{List, [], _∷_, _++_}
 use lib.ListN.{length, getD, length-append}
 use Rattle.protocol.specs.AddressText as G
 use Rattle.protocol.specs.AddressText.{Hex, digit, upper, lower, Number, Dotted, Group, Groups, Tail, Left, Right, Ipv6}
-use Rattle.protocol.proofs.AddressIpv6.{dotted-length}
+use Rattle.protocol.proofs.AddressIpv6.{dotted-length, number-short, number-group}
 
--- ---- groups are a tail, and a number is a group
+-- ---- groups are a tail
 
 pub groups-tail : {s bs : List ℕ} → Groups s bs → Tail s bs
 groups-tail (G.last g) = G.last g
 groups-tail (G.next g y) = G.next g (groups-tail y)
-
-two-digits : {p : List ℕ} {v : ℕ} → Number p v → v ≤ 25 → length p ≤ 2
-two-digits (G.one x) h = omega arith
-two-digits (G.more (G.one x) l y m) h = omega arith
-two-digits (G.more (G.more n k x o) l y m) h = absurd (omega arith)
-
-number-short : {p : List ℕ} {v : ℕ} → Number p v → length p ≤ 3
-number-short (G.one x) = omega arith
-number-short (G.more {p} {v} {a} n l x m) = omega (arith, two-digits n (omega arith), length-append p (a ∷ []))
-
-pub number-group : {p : List ℕ} {v : ℕ} → Number p v → (w : ℕ) × Group p w
-number-group (G.one x) = (_, G.one (digit x))
-number-group (G.more n l x m) = let (w, g) = number-group n in (_, G.more g (omega (arith, number-short n)) (digit x))
 
 -- ---- lengths
 
