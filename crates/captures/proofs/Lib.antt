@@ -4,3 +4,4 @@ pub mod Walked
 pub mod Judges
 pub mod Own
 pub mod Claims
+pub mod Examples

@@ -3,3 +3,4 @@ pub mod Calls
 pub mod Judges
 pub mod Own
 pub mod Coded
+pub mod Worked
