@@ -15,7 +15,7 @@ use buffers::write::copy;
 use protocol::{Address, AddressKind, Answer, ENDPOINT_TEXT, SocksError};
 
 // Whether the text was written, and how many bytes it has.
-#[derive(Drop)]
+#[derive(Clone, Copy)]
 pub struct Written {
     pub answer: Answer,
     pub len: usize,

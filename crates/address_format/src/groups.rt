@@ -7,7 +7,7 @@ ghost use Rattle.address_format.specs.groups.Groups.{behind_mark, split_by, grou
 use crate::numerals::put_digits;
 
 // A run of zero groups: where it begins, and how many they are.
-#[derive(Drop)]
+#[derive(Clone, Copy)]
 struct ZeroRun {
     start: usize,
     count: usize,

@@ -10,7 +10,7 @@ use crate::ipv4::read_ipv4;
 use protocol::{AddressKind, Follows};
 
 // How a row of groups stops: it is none, at the text's end, or at `::`.
-#[derive(Drop)]
+#[derive(Clone, Copy)]
 pub enum Stop {
     NoRow,
     Ends,
@@ -18,7 +18,7 @@ pub enum Stop {
 }
 
 // A row of groups: how it stops, its first len bytes, and the place behind `::`.
-#[derive(Drop)]
+#[derive(Clone, Copy)]
 pub struct GroupRow {
     pub stop: Stop,
     pub len: usize,

@@ -9,7 +9,7 @@ use crate::digits::{mark_at, read_digits};
 use protocol::AddressKind;
 
 // A text's kind, and its address bytes: four for Ipv4, sixteen for Ipv6, none for Domain. The others are 0.
-#[derive(Drop)]
+#[derive(Clone, Copy)]
 pub struct AddressText {
     pub kind: AddressKind,
     pub bytes: [u8; 16],

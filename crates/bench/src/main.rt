@@ -15,7 +15,7 @@ use report::{State, Writer, put_byte, put_bytes, put_field, put_number, put_stat
 const PIECE: usize = 513;
 
 // An end, and how many bytes at the output's start are still to be written.
-#[derive(Drop)]
+#[derive(Clone, Copy)]
 struct Turn {
     server: Server,
     sent: usize,

@@ -7,7 +7,7 @@ use crate::write::{copy, least};
 use protocol::{AddressKind, Bound};
 
 // Where an address stands and how many bytes it has; its kind and its port.
-#[derive(Drop)]
+#[derive(Clone, Copy)]
 pub struct Found {
     pub at: usize,
     pub len: usize,
@@ -66,7 +66,7 @@ fn keep_part(hold: &mut [u8], n: usize, piece: &[u8], from: usize, to: usize)
 }
 
 // Beside the bytes that were kept: how many they are, their kind and the port.
-#[derive(Drop)]
+#[derive(Clone, Copy)]
 pub struct Held {
     pub len: usize,
     pub bound: Bound,

@@ -10,7 +10,7 @@ ghost use Rattle.captures.specs.Coded.{way, Remains};
 use crate::entries::head_at;
 
 // A place in a capture, with so many bytes of an entry of the direction; behind these stand entries.
-#[derive(Drop)]
+#[derive(Clone, Copy)]
 struct Cursor {
     at: usize,
     left: usize,

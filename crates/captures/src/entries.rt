@@ -7,7 +7,7 @@ ghost use Rattle.captures_spec.specs.Reading.{length_by, row_of};
 use buffers::write::wide;
 
 // What an entry's two bytes say: its direction, and where its bytes end.
-#[derive(Drop)]
+#[derive(Clone, Copy)]
 pub struct Head {
     pub received: bool,
     pub end: usize,

@@ -9,7 +9,7 @@ mod walk;
 use protocol::Answer;
 
 // alike: accepted, and both directions of the two captures join to the same bytes.
-#[derive(Drop)]
+#[derive(Clone, Copy)]
 pub struct Compared {
     pub answer: Answer,
     pub alike: bool,

@@ -17,7 +17,7 @@ use protocol::{OUTPUT_V5, Outcome, REQUESTS};
 const DUE: usize = REQUESTS + OUTPUT_V5;
 
 // Behind some entries: the session, how many bytes are due, how many of these were sent, and whether the last entry was lawful.
-#[derive(Drop)]
+#[derive(Clone, Copy)]
 struct Course {
     session: Session,
     due: usize,

@@ -27,7 +27,7 @@ fn port_of(flags: u8, number: u16) -> Port {
 }
 
 // An opening, with the places of its texts, of the number of its records, and of what follows it.
-#[derive(Drop)]
+#[derive(Clone, Copy)]
 pub struct Opening {
     pub version: u8,
     pub config: SocksConfig,
@@ -124,7 +124,7 @@ pub fn chosen_at(s: &[u8], at: usize, four: bool) -> Lookup {
 }
 
 // A route, with the places of its host and of the number of its proxies.
-#[derive(Drop)]
+#[derive(Clone, Copy)]
 pub struct Target {
     pub port: Port,
     pub host: usize,
@@ -247,7 +247,7 @@ fn calls_end(s: &[u8], at: usize, kind: u8) -> usize {
 }
 
 // What the caller's answer says.
-#[derive(Drop)]
+#[derive(Clone, Copy)]
 pub struct Said {
     pub status: u8,
     pub bound: Record,

@@ -24,7 +24,7 @@ fn room_of(reply: Reply) -> usize
 }
 
 // What a delivery answers, and what the piece came to.
-#[derive(Drop)]
+#[derive(Clone, Copy)]
 pub struct Received {
     pub answer: Answer,
     pub taken: Taken,

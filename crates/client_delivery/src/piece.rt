@@ -15,7 +15,7 @@ use replies::unread::fewest;
 
 // What a piece comes to beside the hold: the stage, how many bytes are held and were used, the part of the requests that became due, the
 // bound address but for its bytes, and the attempts.
-#[derive(Drop)]
+#[derive(Clone, Copy)]
 pub struct Taken {
     pub stage: Stage,
     pub held: usize,

@@ -10,7 +10,7 @@ use replies::unread::read_at;
 
 // Where a delivery stands: the stage, the places in the held bytes and the piece at which the last reply read begins and behind which
 // all is unread, how many bytes became due, how many replies were decided, and whether another turn follows.
-#[derive(Drop)]
+#[derive(Clone, Copy)]
 pub struct Turn {
     pub stage: Stage,
     pub begin: usize,

@@ -56,7 +56,7 @@ pub fn port_number(port: Port) -> u16
 }
 
 // What preparing comes to, beside the bytes of the requests that are kept.
-#[derive(Drop)]
+#[derive(Clone, Copy)]
 pub struct Begun {
     pub answer: Answer,
     pub stage: Stage,

@@ -19,7 +19,7 @@ use std::num::wrapping_add_u64;
 // first `held` bytes of `hold`, which are the undecided rest of a reply, and those of `requests` that are still due. Open: the first `held`
 // bytes of `hold`, which are the bound address, and `bound`, its kind and port. Failed: the stage alone. The requests never change.
 // `attempts` counts from preparing on, at every stage.
-#[derive(Drop)]
+#[derive(Clone, Copy)]
 pub struct Session {
     pub stage: Stage,
     pub started: bool,
@@ -30,20 +30,20 @@ pub struct Session {
     pub requests: Requests,
 }
 
-#[derive(Drop)]
+#[derive(Clone, Copy)]
 pub struct Prepared {
     pub answer: Answer,
     pub session: Session,
 }
 
-#[derive(Drop)]
+#[derive(Clone, Copy)]
 pub struct Started {
     pub answer: Answer,
     pub sent: usize,
     pub session: Session,
 }
 
-#[derive(Drop)]
+#[derive(Clone, Copy)]
 pub struct Delivered {
     pub answer: Answer,
     pub used: usize,
@@ -51,7 +51,7 @@ pub struct Delivered {
     pub session: Session,
 }
 
-#[derive(Drop)]
+#[derive(Clone, Copy)]
 pub struct Ended {
     pub answer: Answer,
     pub session: Session,

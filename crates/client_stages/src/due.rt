@@ -6,7 +6,7 @@ use buffers::write::least;
 use protocol::{AuthMethod, CONNECT, REQUESTS, Reply, SocksError, Verdict};
 
 // Which reply a session waits for, or how it ended.
-#[derive(Drop)]
+#[derive(Clone, Copy)]
 pub enum Stage {
     Awaiting(Reply),
     Open,
@@ -15,7 +15,7 @@ pub enum Stage {
 
 // How many bytes the requests of an opening have: the first, which is a NegotiationReq over v5 and a Request over v4, an AuthenticationReq
 // and a ProxyReq. optimistic: all go at the start.
-#[derive(Drop)]
+#[derive(Clone, Copy)]
 pub struct Lengths {
     pub optimistic: bool,
     pub first: usize,
@@ -24,14 +24,14 @@ pub struct Lengths {
 }
 
 // The requests of an opening as the bytes that go, one behind the other.
-#[derive(Drop)]
+#[derive(Clone, Copy)]
 pub struct Requests {
     pub lengths: Lengths,
     pub bytes: [u8; REQUESTS],
 }
 
 // The stage behind a reply, and how many bytes it makes due.
-#[derive(Drop)]
+#[derive(Clone, Copy)]
 pub struct Due {
     pub stage: Stage,
     pub len: usize,

@@ -31,7 +31,7 @@ pub fn outcome(stage: Stage) -> Outcome
 }
 
 // What an end answers, and the stage and the number of held bytes behind it.
-#[derive(Drop)]
+#[derive(Clone, Copy)]
 pub struct Ending {
     pub answer: Answer,
     pub stage: Stage,

@@ -8,7 +8,7 @@ use buffers::write::least;
 use protocol::{Answer, CONNECT, CREDENTIALS, OUTPUT_V5, Reply, START_OUTPUT_V4, SocksError};
 
 // started: whether the session is started behind it. sent: how many bytes of its requests go.
-#[derive(Drop)]
+#[derive(Clone, Copy)]
 pub struct Starting {
     pub answer: Answer,
     pub started: bool,

@@ -3,7 +3,7 @@ ghost use Rattle.std.specs.Prelude.{◌≡◌, ◌≤◌, ◌<◌};
 ghost use Rattle.draws.specs.Draws.{draw_of, choice_of, piece_of};
 
 // The next state and its top 16 bits.
-#[derive(Drop)]
+#[derive(Clone, Copy)]
 pub struct Drawn {
     pub state: u32,
     pub value: u32,
@@ -19,7 +19,7 @@ pub fn draw(state: u32) -> Drawn
     }
 }
 
-#[derive(Drop)]
+#[derive(Clone, Copy)]
 pub struct Choice {
     pub v5: bool,
     pub credentials: bool,
@@ -42,7 +42,7 @@ pub fn choose(state: u32) -> Choice
     }
 }
 
-#[derive(Drop)]
+#[derive(Clone, Copy)]
 pub struct Piece {
     pub len: usize,
     pub state: u32,

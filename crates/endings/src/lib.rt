@@ -8,7 +8,7 @@ mod words;
 use protocol::SocksError;
 
 // What is answered: a refusal, that no stream leads there, or the length of the stream that stands at the buffer's start.
-#[derive(Drop)]
+#[derive(Clone, Copy)]
 pub enum Produced {
     Refused(SocksError),
     NoStream,

@@ -75,7 +75,7 @@ fn word_at(proxy: Proxy, behind: usize, wanted: OutcomeStatus) -> Word
 }
 
 // The length of a stream that stands at the start of an array, if there is one.
-#[derive(Drop)]
+#[derive(Clone, Copy)]
 pub struct Row {
     pub found: bool,
     pub len: usize,

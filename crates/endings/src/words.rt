@@ -8,7 +8,7 @@ use endings_spec::{Kind, OutcomeStatus};
 use protocol::Version;
 
 // The first `len` bytes, if there is a stream.
-#[derive(Drop)]
+#[derive(Clone, Copy)]
 pub struct Word {
     pub found: bool,
     pub len: usize,

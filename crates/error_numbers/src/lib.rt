@@ -4,7 +4,7 @@ ghost use Rattle.protocol.specs.Numbers.{number, status, answer_number};
 
 use protocol::{Answer, SocksError};
 
-#[derive(Drop)]
+#[derive(Clone, Copy)]
 struct Numbers {
     number: u8,
     status: u8,

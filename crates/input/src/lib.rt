@@ -7,7 +7,7 @@ use places::{byte_at, number_at, part, store};
 pub mod places;
 
 // What is unread stands in the buffer from a place up to an end. ended: nothing comes behind it.
-#[derive(Drop)]
+#[derive(Clone, Copy)]
 pub struct Input {
     pub at: usize,
     pub end: usize,

@@ -11,7 +11,7 @@ use raw_numbers::bit;
 
 // What a line stands for, but user and password: the host is a part of the line. Or 24 and its place.
 #[repr(C)]
-#[derive(Drop)]
+#[derive(Clone, Copy)]
 pub struct RawLine {
     pub place: usize,
     pub host_at: usize,

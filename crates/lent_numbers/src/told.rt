@@ -6,7 +6,7 @@ use error_numbers::{number, status};
 
 // How a session, a route or a proxy's end stands: 0 waiting, 1 open, 2 failed with a number and a status, 3 asked, and then the status that grants.
 #[repr(C)]
-#[derive(Drop)]
+#[derive(Clone, Copy)]
 pub struct RawOutcome {
     pub state: u8,
     pub number: u8,
@@ -15,7 +15,7 @@ pub struct RawOutcome {
 
 // What a call used of the piece and put at the output's start, its answer, which is 0 or the refusal's number, and how it leaves what was lent.
 #[repr(C)]
-#[derive(Drop)]
+#[derive(Clone, Copy)]
 pub struct RawStep {
     pub used: usize,
     pub sent: usize,

@@ -15,7 +15,7 @@ use proxy_spec::Stage;
 use raw_numbers::family_of;
 
 #[repr(C)]
-#[derive(Drop)]
+#[derive(Clone, Copy)]
 pub struct RawRecord {
     pub kind: u8,
     pub address: [u8; 16],

@@ -23,7 +23,7 @@ use proxy_spec::Stage;
 use raw_numbers::kind_number;
 
 #[repr(C)]
-#[derive(Drop)]
+#[derive(Clone, Copy)]
 pub struct RawTarget {
     pub len: usize,
     pub port: u16,

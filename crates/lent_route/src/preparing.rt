@@ -100,7 +100,7 @@ fn keep(s: &mut [u8], count: usize, begun: Begun) -> u8
 }
 
 // Whether a hop is taken, and behind how many others.
-#[derive(Drop)]
+#[derive(Clone, Copy)]
 struct Ready {
     answer: u8,
     count: usize,

@@ -23,7 +23,7 @@ use raw_records::found;
 
 // The options of a session over v5: 0 is no, any other number yes.
 #[repr(C)]
-#[derive(Drop)]
+#[derive(Clone, Copy)]
 pub struct RawConfig {
     pub proxy_auth: u8,
     pub local_dns: u8,

@@ -21,7 +21,7 @@ use protocol::{Address, AddressKind, HOLD, REQUESTS, SocksError};
 use raw_errors::error_of;
 
 #[repr(C)]
-#[derive(Drop)]
+#[derive(Clone, Copy)]
 pub struct RawAddress {
     pub port: u16,
     pub kind: u8,
@@ -30,7 +30,7 @@ pub struct RawAddress {
 }
 
 #[repr(C)]
-#[derive(Drop)]
+#[derive(Clone, Copy)]
 pub struct RawText {
     pub len: usize,
     pub answer: u8,

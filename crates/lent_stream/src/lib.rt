@@ -11,7 +11,7 @@ use raw_records::found;
 
 // A stream's length, or the refusal's number, or that no stream leads there.
 #[repr(C)]
-#[derive(Drop)]
+#[derive(Clone, Copy)]
 pub struct RawStream {
     pub len: usize,
     pub answer: u8,

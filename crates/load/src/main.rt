@@ -18,7 +18,7 @@ use protocol::{Outcome, Port, SocksConfig};
 use socks::{Prepared, Session, Started};
 
 // What all handshakes so far came to, and the state that the next draw starts from.
-#[derive(Drop)]
+#[derive(Clone, Copy)]
 struct Tally {
     state: u32,
     opened: u64,
@@ -143,7 +143,7 @@ fn all_replies() -> [u8; 30]
 }
 
 // Where the replies that open a session stand among all.
-#[derive(Drop)]
+#[derive(Clone, Copy)]
 struct Part {
     from: usize,
     to: usize,
@@ -221,7 +221,7 @@ fn is_list(text: &[u8]) -> bool
 }
 
 // What the third argument asks for.
-#[derive(Drop)]
+#[derive(Clone, Copy)]
 struct Mode {
     single: bool,
     list: bool,

@@ -6,7 +6,7 @@ use buffers::write::least;
 use protocol::{Family, Record};
 
 // The record taken, if there is one.
-#[derive(Drop)]
+#[derive(Clone, Copy)]
 pub struct Lookup {
     pub found: bool,
     pub first: Record,

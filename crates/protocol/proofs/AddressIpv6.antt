@@ -136,14 +136,14 @@ tail_complete (G.last g) (suc m) h = row_end g m
 tail_complete (G.quad {s} {bs} (G.next {n = k} {p} {s = t} x y)) (suc m) h =
     let l = dotted_length y in
     row_dot (number_group x).1 m t ∙ rw (ipv4_complete (G.next x y)) (quad_ends m bs (omega arith))
-tail_complete (G.next {p} {s} {bs} {v} g y) (suc m) h = row_colon g m s (tail_head y) ∙ rw (tail_complete y m (omega arith))
+tail_complete (G.next {p} {s} {bs} {v} g y) (suc m) h = row_colon g m s (tail_head y) ∙ rw (tail_complete {s = s} y m (omega arith))
 
 groups_complete : {a us : List ℕ} → Groups a us → (t : List ℕ) (n : ℕ) → length us ≤ n + n → row n (a ++ (0x3A ∷ 0x3A ∷ t)) ≡ gap us t
 groups_complete g t zero h = let l = groups_two g in absurd (omega arith)
 groups_complete (G.last g) t (suc m) h = row_gap g m t
 groups_complete (G.next {p} {s} {bs} {v} g y) t (suc m) h =
     rw (append_assoc p (0x3A ∷ s) (0x3A ∷ 0x3A ∷ t))
-    (row_colon g m (s ++ (0x3A ∷ 0x3A ∷ t)) (groups_head y (0x3A ∷ 0x3A ∷ t)) ∙ rw (groups_complete y t m (omega arith)))
+    (row_colon g m (s ++ (0x3A ∷ 0x3A ∷ t)) (groups_head y (0x3A ∷ 0x3A ∷ t)) ∙ rw (groups_complete {a = s} y t m (omega arith)))
 
 -- ---- what is read is of the grammar
 

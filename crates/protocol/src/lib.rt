@@ -46,14 +46,14 @@ pub const ROUTE_REQUESTS: usize = 8192;
 pub const ENDPOINT_TEXT: usize = 261;
 
 // The version that a proxy speaks.
-#[derive(Drop)]
+#[derive(Clone, Copy)]
 pub enum Version {
     V4,
     V5,
 }
 
 // The methods of RFC 1928, section 3, that the client knows.
-#[derive(Drop)]
+#[derive(Clone, Copy)]
 pub enum AuthMethod {
     NoAuth,
     UserPass,
@@ -61,34 +61,34 @@ pub enum AuthMethod {
 }
 
 // A destination's port, or none.
-#[derive(Drop)]
+#[derive(Clone, Copy)]
 pub enum Port {
     Missing,
     Given(u16),
 }
 
-#[derive(Drop)]
+#[derive(Clone, Copy)]
 pub enum Family {
     Four,
     Six,
 }
 
 // An answer of a lookup. Family four uses the first four address bytes.
-#[derive(Drop)]
+#[derive(Clone, Copy)]
 pub struct Record {
     pub family: Family,
     pub address: [u8; 16],
 }
 
 // proxy_auth: with user and password. local_dns: names are looked up by the caller. optimistic: all requests go at the start.
-#[derive(Drop)]
+#[derive(Clone, Copy)]
 pub struct SocksConfig {
     pub proxy_auth: bool,
     pub local_dns: bool,
     pub optimistic: bool,
 }
 
-#[derive(Drop)]
+#[derive(Clone, Copy)]
 pub enum AddressKind {
     Ipv4,
     Ipv6,
@@ -96,7 +96,7 @@ pub enum AddressKind {
 }
 
 // An address and its port: a kind, the first bytes of an array, and the port. An Ipv4 has four bytes, an Ipv6 sixteen, a Domain `len`.
-#[derive(Drop)]
+#[derive(Clone, Copy)]
 pub struct Address {
     pub kind: AddressKind,
     pub len: u8,
@@ -105,14 +105,14 @@ pub struct Address {
 }
 
 // What an open session keeps of its bound address beside the address's bytes.
-#[derive(Drop)]
+#[derive(Clone, Copy)]
 pub struct Bound {
     pub kind: AddressKind,
     pub port: u16,
 }
 
 // Why a call was refused or a session failed. specs/Numbers.antt gives each its number and status.
-#[derive(Drop)]
+#[derive(Clone, Copy)]
 pub enum SocksError {
     ShortOutput,
     MissingHost,
@@ -143,14 +143,14 @@ pub enum SocksError {
 }
 
 // What a call answers beside its values.
-#[derive(Drop)]
+#[derive(Clone, Copy)]
 pub enum Answer {
     Accepted,
     Refused(SocksError),
 }
 
 // The reply that a session waits for. A NegotiationRes answers the method that was sent.
-#[derive(Drop)]
+#[derive(Clone, Copy)]
 pub enum Reply {
     NegotiationRes(AuthMethod),
     AuthenticationRes,
@@ -158,20 +158,20 @@ pub enum Reply {
     Response,
 }
 
-#[derive(Drop)]
+#[derive(Clone, Copy)]
 pub enum Verdict {
     Good,
     Bad(SocksError),
 }
 
 // What the unread bytes say of a reply: not yet decided, or decided by so many of them, and how.
-#[derive(Drop)]
+#[derive(Clone, Copy)]
 pub enum Decision {
     Undecided,
     Decided(usize, Verdict),
 }
 
-#[derive(Drop)]
+#[derive(Clone, Copy)]
 pub enum Outcome {
     Waiting,
     Open,
@@ -180,7 +180,7 @@ pub enum Outcome {
 
 // How far a UTF-8 text has been read (RFC 3629, section 4): between characters, before one to three tails,
 // behind E0, ED, F0 or F4, or past what no text has.
-#[derive(Drop)]
+#[derive(Clone, Copy)]
 pub enum Utf8State {
     Boundary,
     Tail1,
@@ -194,14 +194,14 @@ pub enum Utf8State {
 }
 
 // Digits at the start of a text: how many, and their value.
-#[derive(Drop)]
+#[derive(Clone, Copy)]
 pub struct Digits {
     pub count: usize,
     pub value: usize,
 }
 
 // What follows the digits of a group of IPv6 text.
-#[derive(Drop)]
+#[derive(Clone, Copy)]
 pub enum Follows {
     Bad,
     End,

@@ -8,7 +8,7 @@ use proxy_spec::{Field, Ports, Says, Stage};
 use reader::byte;
 
 // What is said, and the stage behind it. In what follows `held` and then `piece` are the bytes of a whole field, and no others.
-#[derive(Drop)]
+#[derive(Clone, Copy)]
 pub struct Due {
     pub stage: Stage,
     pub says: Says,

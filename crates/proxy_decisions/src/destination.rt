@@ -16,7 +16,7 @@ use proxy_spec::{Field, Ports};
 use reader::{byte, port_at};
 
 // A destination: a kind, the first bytes of an array, and the port.
-#[derive(Drop)]
+#[derive(Clone, Copy)]
 pub struct Target {
     pub kind: AddressKind,
     pub len: usize,

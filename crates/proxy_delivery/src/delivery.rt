@@ -9,7 +9,7 @@ use protocol::{Answer, Bound, NAME_V4, PROXY_OUTPUT, SocksError};
 use proxy_spec::{Field, Stage};
 
 // What a delivery answers, and what the piece came to.
-#[derive(Drop)]
+#[derive(Clone, Copy)]
 pub struct Received {
     pub answer: Answer,
     pub taken: Taken,

@@ -15,7 +15,7 @@ use proxy_spec::{Field, Stage};
 
 // What a piece comes to beside the hold and the output: the stage, how many bytes are held, were used and were sent, and the destination but
 // for its bytes.
-#[derive(Drop)]
+#[derive(Clone, Copy)]
 pub struct Taken {
     pub stage: Stage,
     pub held: usize,

@@ -15,7 +15,7 @@ use proxy_spec::{Field, Stage};
 
 // Where a delivery stands: the stage, the field that was read last, the places in the held bytes and the piece at which that begins and
 // behind which all is unread, and the place in the output behind what was said.
-#[derive(Drop)]
+#[derive(Clone, Copy)]
 pub struct Turn {
     pub stage: Stage,
     pub last: Field,
@@ -53,7 +53,7 @@ fn judge_at(
 }
 
 // Which field is awaited, if one is.
-#[derive(Drop)]
+#[derive(Clone, Copy)]
 struct Next {
     some: bool,
     field: Field,
@@ -74,7 +74,7 @@ fn awaited(stage: Stage, field: Field) -> Next
 }
 
 // A turn, and whether another follows at a next field.
-#[derive(Drop)]
+#[derive(Clone, Copy)]
 struct Step {
     turn: Turn,
     again: bool,

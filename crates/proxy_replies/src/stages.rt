@@ -10,7 +10,7 @@ use protocol::{Answer, PROXY_OUTPUT, Record, SocksError, Version};
 use proxy_spec::Stage;
 
 // Waiting for bytes; asked, and awaiting the caller's answer; open; or failed, and with what.
-#[derive(Drop)]
+#[derive(Clone, Copy)]
 pub enum Outcome {
     Waiting,
     Asked,
@@ -42,7 +42,7 @@ pub fn has_destination(stage: Stage) -> bool
 }
 
 // What an end of stream answers, and the stage and the number of held bytes behind it.
-#[derive(Drop)]
+#[derive(Clone, Copy)]
 pub struct Ending {
     pub answer: Answer,
     pub stage: Stage,
@@ -77,7 +77,7 @@ pub fn end(stage: Stage, held: usize) -> Ending
 }
 
 // What the caller's answer is answered with, how many bytes it sent, and the stage behind it.
-#[derive(Drop)]
+#[derive(Clone, Copy)]
 pub struct Said {
     pub answer: Answer,
     pub sent: usize,

@@ -15,7 +15,7 @@ use proxy_replies::stages::{Outcome, has_destination};
 use proxy_spec::{Field, Stage};
 
 // A user or a password.
-#[derive(Drop)]
+#[derive(Clone, Copy)]
 pub struct Credential {
     pub len: u8,
     pub bytes: [u8; CREDENTIAL],
@@ -23,7 +23,7 @@ pub struct Credential {
 
 // What matters when. Awaiting: the first `held` bytes of `hold`, which are the undecided rest of a field. Asked and open: the first `held` bytes
 // of `hold`, which are the destination, and `bound`, its kind and port. Failed: the stage alone. What it was set up with never changes.
-#[derive(Drop)]
+#[derive(Clone, Copy)]
 pub struct Server {
     pub stage: Stage,
     pub held: usize,
@@ -34,13 +34,13 @@ pub struct Server {
     pub password: Credential,
 }
 
-#[derive(Drop)]
+#[derive(Clone, Copy)]
 pub struct SetUp {
     pub answer: Answer,
     pub server: Server,
 }
 
-#[derive(Drop)]
+#[derive(Clone, Copy)]
 pub struct Delivered {
     pub answer: Answer,
     pub used: usize,
@@ -48,14 +48,14 @@ pub struct Delivered {
     pub server: Server,
 }
 
-#[derive(Drop)]
+#[derive(Clone, Copy)]
 pub struct Answered {
     pub answer: Answer,
     pub sent: usize,
     pub server: Server,
 }
 
-#[derive(Drop)]
+#[derive(Clone, Copy)]
 pub struct Ended {
     pub answer: Answer,
     pub server: Server,

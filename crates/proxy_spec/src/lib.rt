@@ -2,7 +2,7 @@
 use protocol::{SocksError, Version};
 
 // What a v4 request has between its version and its user id: CD, DSTPORT and DSTIP.
-#[derive(Drop)]
+#[derive(Clone, Copy)]
 pub struct Ports {
     pub command: u8,
     pub port: u16,
@@ -13,7 +13,7 @@ pub struct Ports {
 }
 
 // The field of a client's requests that is awaited, with what is still needed of those before it.
-#[derive(Drop)]
+#[derive(Clone, Copy)]
 pub enum Field {
     // the version
     First,
@@ -35,7 +35,7 @@ pub enum Field {
 }
 
 // Awaiting a field; or a destination is handed out, and the caller's answer awaited; or open; or failed.
-#[derive(Drop)]
+#[derive(Clone, Copy)]
 pub enum Stage {
     Awaiting(Field),
     Asked(Version),
@@ -44,7 +44,7 @@ pub enum Stage {
 }
 
 // What the end says of its own: nothing, the method chosen, how credentials were judged, or a reply with a status.
-#[derive(Drop)]
+#[derive(Clone, Copy)]
 pub enum Says {
     Nothing,
     Method(u8),

@@ -8,7 +8,7 @@ use address_text::digits::hex_value;
 use protocol::CREDENTIAL;
 
 // A byte and the next place, or the place at which it dies.
-#[derive(Drop)]
+#[derive(Clone, Copy)]
 pub struct EscapedRead {
     pub found: bool,
     pub next: usize,
@@ -16,7 +16,7 @@ pub struct EscapedRead {
 }
 
 // The first len bytes and the next place, or the place at which it dies.
-#[derive(Drop)]
+#[derive(Clone, Copy)]
 pub struct CredentialRead {
     pub found: bool,
     pub next: usize,

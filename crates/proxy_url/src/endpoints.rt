@@ -7,7 +7,7 @@ use crate::hosts::read_host;
 use crate::ports::read_port;
 
 // Where the host begins, its length and the port, and the text's length; or the place at which it dies.
-#[derive(Drop)]
+#[derive(Clone, Copy)]
 pub struct EndpointRead {
     pub found: bool,
     pub next: usize,

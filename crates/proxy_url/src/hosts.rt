@@ -9,7 +9,7 @@ use buffers::write::{copy, least};
 use protocol::AddressKind;
 
 // Where the host begins, and its length, and the next place; or the place at which it dies.
-#[derive(Drop)]
+#[derive(Clone, Copy)]
 pub struct HostRead {
     pub found: bool,
     pub next: usize,

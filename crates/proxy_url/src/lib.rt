@@ -20,7 +20,7 @@ use protocol::{Answer, CREDENTIAL, SocksError, Version};
 
 // What a line stands for: user and password are the first bytes of their arrays, and are given if proxy_auth; the host is a part of the
 // line. Or 24 and its place, beside which all else is empty.
-#[derive(Drop)]
+#[derive(Clone, Copy)]
 pub struct ProxyLine {
     pub answer: Answer,
     pub place: usize,

@@ -6,7 +6,7 @@ ghost use Rattle.proxy_url.specs.Coded.{port_coded};
 use address_text::digits::hex_value;
 
 // The port and the text's length, or the place at which it dies.
-#[derive(Drop)]
+#[derive(Clone, Copy)]
 pub struct PortRead {
     pub found: bool,
     pub next: usize,

@@ -9,7 +9,7 @@ use crate::schemes::most;
 use protocol::{CREDENTIAL, Version};
 
 // User and password, if they are given, where the host begins, its length and the port, and the text's length; or the place at which it dies.
-#[derive(Drop)]
+#[derive(Clone, Copy)]
 pub struct RestRead {
     pub found: bool,
     pub next: usize,

@@ -7,7 +7,7 @@ use crate::texts::common;
 use protocol::Version;
 
 // The version and whether local lookup is meant, and the next place; or the place at which it dies.
-#[derive(Drop)]
+#[derive(Clone, Copy)]
 pub struct SchemeRead {
     pub found: bool,
     pub next: usize,

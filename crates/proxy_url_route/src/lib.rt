@@ -19,7 +19,7 @@ pub const ROUTE_TEXT: usize = PROXIES * FIELDS;
 
 // The proxies of a route and their count, as the route's opening takes them with the buffer as its text. Or a refusal, beside which
 // there are none: with 24 the line's number, counted from 1, and the place in it.
-#[derive(Drop)]
+#[derive(Clone, Copy)]
 pub struct RouteLines {
     pub answer: Answer,
     pub line: usize,
@@ -29,7 +29,7 @@ pub struct RouteLines {
 }
 
 // The number of a line that is refused, 0 if none is, and the place in it.
-#[derive(Drop)]
+#[derive(Clone, Copy)]
 pub struct RefusedLine {
     pub line: usize,
     pub place: usize,

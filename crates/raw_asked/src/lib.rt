@@ -9,7 +9,7 @@ use raw_server::{RawServer, server_of, standing_of};
 use raw_session::RawOutcome;
 
 #[repr(C)]
-#[derive(Drop)]
+#[derive(Clone, Copy)]
 pub struct RawTarget {
     pub len: usize,
     pub port: u16,

@@ -11,7 +11,7 @@ use raw_session::{RawStep, step};
 
 // The options of a session over v5: 0 is no, any other number yes.
 #[repr(C)]
-#[derive(Drop)]
+#[derive(Clone, Copy)]
 pub struct RawConfig {
     pub proxy_auth: u8,
     pub local_dns: u8,

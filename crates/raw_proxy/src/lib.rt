@@ -11,7 +11,7 @@ use raw_numbers::{family_of, truth};
 use raw_server::{RawServed, RawServer, served, server_of};
 
 #[repr(C)]
-#[derive(Drop)]
+#[derive(Clone, Copy)]
 pub struct RawRecord {
     pub kind: u8,
     pub address: [u8; 16],

@@ -13,7 +13,7 @@ use raw_session::RawOutcome;
 
 // A stage, and what it keeps: of a failure its error, of an address its command and type, of a v4 request its fields.
 #[repr(C)]
-#[derive(Drop)]
+#[derive(Clone, Copy)]
 pub struct RawStage {
     pub dstport: u16,
     pub number: u8,
@@ -29,7 +29,7 @@ pub struct RawStage {
 
 // Every value of every field has a meaning (specs/Raw.antt); all zeros is an end that refuses everything.
 #[repr(C)]
-#[derive(Drop)]
+#[derive(Clone, Copy)]
 pub struct RawServer {
     pub held: usize,
     pub stage: RawStage,
@@ -46,7 +46,7 @@ pub struct RawServer {
 // What a call answers, which is 0 or the refusal's number, what it used of the piece and put at the output's start, the end that it
 // leaves, and how that stands.
 #[repr(C)]
-#[derive(Drop)]
+#[derive(Clone, Copy)]
 pub struct RawServed {
     pub server: RawServer,
     pub used: usize,

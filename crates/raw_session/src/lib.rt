@@ -11,7 +11,7 @@ use raw_numbers::{bit, kind_number, kind_of, truth};
 
 // Every value of every field has a meaning (specs/Raw.antt); all zeros is a session that refuses everything.
 #[repr(C)]
-#[derive(Drop)]
+#[derive(Clone, Copy)]
 pub struct RawSession {
     pub attempts: u64,
     pub held: usize,
@@ -31,7 +31,7 @@ pub struct RawSession {
 
 // How a session stands: 0 waiting, 1 open, 2 failed, and then with what.
 #[repr(C)]
-#[derive(Drop)]
+#[derive(Clone, Copy)]
 pub struct RawOutcome {
     pub state: u8,
     pub number: u8,
@@ -41,7 +41,7 @@ pub struct RawOutcome {
 // What a call answers, which is 0 or the refusal's number, what it used of the piece and put at the output's start, the session that it
 // leaves, and how that stands.
 #[repr(C)]
-#[derive(Drop)]
+#[derive(Clone, Copy)]
 pub struct RawStep {
     pub session: RawSession,
     pub used: usize,
@@ -51,7 +51,7 @@ pub struct RawStep {
 }
 
 // What a session's numbers say of its stage.
-#[derive(Drop)]
+#[derive(Clone, Copy)]
 struct StageNumbers {
     stage: u8,
     error: u8,

@@ -10,7 +10,7 @@ use raw_numbers::kind_number;
 use raw_session::{RawOutcome, RawSession, outcome_of, session_of};
 
 #[repr(C)]
-#[derive(Drop)]
+#[derive(Clone, Copy)]
 pub struct RawAddress {
     pub port: u16,
     pub kind: u8,
@@ -19,7 +19,7 @@ pub struct RawAddress {
 }
 
 #[repr(C)]
-#[derive(Drop)]
+#[derive(Clone, Copy)]
 pub struct RawText {
     pub len: usize,
     pub answer: u8,

@@ -4,7 +4,7 @@ ghost use Rattle.std.specs.Prelude.{◌≡◌, ◌++◌, ◌+◌, ◌≤◌, ◌
 ghost use Rattle.protocol.specs.Bytes.{byte, two_of};
 ghost use Rattle.reader.specs.Reader.{byte_at, bytes_at, two_at, three_at};
 
-#[derive(Drop)]
+#[derive(Clone, Copy)]
 pub struct Reader<'a, 'b> {
     pub held: &'a [u8],
     pub piece: &'b [u8],
@@ -12,7 +12,7 @@ pub struct Reader<'a, 'b> {
 }
 
 // A byte, whether it came, and the place behind it. Where none came the byte is 0, and the place stays.
-#[derive(Drop)]
+#[derive(Clone, Copy)]
 pub struct Took {
     pub byte: u8,
     pub came: bool,
@@ -70,7 +70,7 @@ pub fn port_at(held: &[u8], piece: &[u8], at: usize) -> u16
 }
 
 // Whether so many bytes came, and the place behind them. Where they have not all come the place stays.
-#[derive(Drop)]
+#[derive(Clone, Copy)]
 pub struct Passed {
     pub came: bool,
     pub at: usize,
@@ -99,7 +99,7 @@ impl<'a, 'b> Reader<'a, 'b> {
 }
 
 // Two bytes, whether all came that were to be taken, and the place behind what came.
-#[derive(Drop)]
+#[derive(Clone, Copy)]
 pub struct Two {
     pub first: u8,
     pub second: u8,
@@ -126,7 +126,7 @@ pub fn two_at(held: &[u8], piece: &[u8], at: usize) -> Two
     }
 }
 
-#[derive(Drop)]
+#[derive(Clone, Copy)]
 pub struct Three {
     pub first: u8,
     pub second: u8,

@@ -57,7 +57,7 @@ fn put_line(s: &[u8], writer: Writer, kept: &mut [u8], text: &mut [u8]) -> Write
 }
 
 // Between two frames. more: whether to read on.
-#[derive(Drop)]
+#[derive(Clone, Copy)]
 struct Stand {
     input: Input,
     writer: Writer,

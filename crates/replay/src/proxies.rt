@@ -11,7 +11,7 @@ use report::{State, Writer, put_byte, put_hex, put_number};
 const ROOM: usize = 262;
 
 // The proxy's end, and what came of the call before.
-#[derive(Drop)]
+#[derive(Clone, Copy)]
 struct Turn {
     server: Server,
     call: Call,

@@ -8,7 +8,7 @@ use report::Writer;
 use route::{Opened, Route};
 
 // A route, and what came of the call before.
-#[derive(Drop)]
+#[derive(Clone, Copy)]
 struct Turn {
     route: Route,
     call: Call,

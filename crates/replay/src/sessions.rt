@@ -8,7 +8,7 @@ use report::{State, Writer};
 use socks::{Prepared, Session, v4, v5};
 
 // A session, and what came of the call before.
-#[derive(Drop)]
+#[derive(Clone, Copy)]
 struct Turn {
     session: Session,
     call: Call,

@@ -13,7 +13,7 @@ const RESTS: usize = 18432;
 
 // room: the output that a delivery lends of which the rest is told. called: whether CALLS has an entry. sent, rests: the places behind
 // what is kept of either.
-#[derive(Drop)]
+#[derive(Clone, Copy)]
 pub struct Tally {
     pub writer: Writer,
     pub room: usize,
@@ -24,7 +24,7 @@ pub struct Tally {
 
 // What came of a call: the number of its answer, or the one it is asked for; how much of its piece it used; and how many bytes it put
 // into the output.
-#[derive(Drop)]
+#[derive(Clone, Copy)]
 pub struct Call {
     pub number: u64,
     pub used: usize,

@@ -3,7 +3,7 @@ use address_format::numerals::hex_digit;
 use protocol::SocksError;
 
 // The file, and how much of the buffer is still to be written to it.
-#[derive(Drop)]
+#[derive(Clone, Copy)]
 pub struct Writer {
     pub file: i32,
     pub at: usize,
@@ -73,7 +73,7 @@ pub fn put_number(writer: Writer, text: &mut [u8], n: u64) -> Writer {
 }
 
 // How a session stands, a route, or the proxy's end, which is asked while it awaits its caller's answer.
-#[derive(Drop)]
+#[derive(Clone, Copy)]
 pub enum State {
     Waiting,
     Asked,

@@ -12,7 +12,7 @@ use protocol::{Bound, PROXIES, REQUESTS, ROUTE_OUTPUT, Reply};
 use std::num::wrapping_add_u64;
 
 // What a route keeps of a proxy beside the bytes of its requests: the reply that is awaited first, and their lengths.
-#[derive(Drop)]
+#[derive(Clone, Copy)]
 pub struct Hop {
     pub first: Reply,
     pub lengths: Lengths,
@@ -20,7 +20,7 @@ pub struct Hop {
 
 // Where a route stands: how many proxies are behind the one that is spoken to, how that one stands, and the place in the output
 // behind what was sent.
-#[derive(Drop)]
+#[derive(Clone, Copy)]
 pub struct Spot {
     pub behind: usize,
     pub stage: Stage,
@@ -31,7 +31,7 @@ pub struct Spot {
 }
 
 // Where a piece leaves a route, and how much of it was used.
-#[derive(Drop)]
+#[derive(Clone, Copy)]
 pub struct Relayed {
     pub spot: Spot,
     pub used: usize,
@@ -127,7 +127,7 @@ fn hand(
 }
 
 // Where the proxy that is spoken to leaves a piece. more: another was begun, which takes the rest.
-#[derive(Drop)]
+#[derive(Clone, Copy)]
 struct Stepped {
     spot: Spot,
     used: usize,

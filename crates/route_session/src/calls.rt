@@ -19,7 +19,7 @@ use route_delivery::{Hop, Spot, relay};
 
 // How the proxy that is spoken to stands, as a session does; how many proxies there are, and how many are behind that one; and what each
 // keeps, the last one's first, with 1,024 bytes each. `count`, `hops` and `bytes` never change.
-#[derive(Drop)]
+#[derive(Clone, Copy)]
 pub struct Route {
     pub stage: Stage,
     pub held: usize,
@@ -32,14 +32,14 @@ pub struct Route {
     pub bytes: [u8; ROUTE_REQUESTS],
 }
 
-#[derive(Drop)]
+#[derive(Clone, Copy)]
 pub struct Opened {
     pub answer: Answer,
     pub sent: usize,
     pub route: Route,
 }
 
-#[derive(Drop)]
+#[derive(Clone, Copy)]
 pub struct Delivered {
     pub answer: Answer,
     pub used: usize,
@@ -47,7 +47,7 @@ pub struct Delivered {
     pub route: Route,
 }
 
-#[derive(Drop)]
+#[derive(Clone, Copy)]
 pub struct Ended {
     pub answer: Answer,
     pub route: Route,
@@ -74,7 +74,7 @@ fn is_over(stage: Stage) -> bool
 }
 
 // What a piece comes to beside the hold: what is answered, where it leaves the route, and how much was used.
-#[derive(Drop)]
+#[derive(Clone, Copy)]
 struct Taken {
     answer: Answer,
     spot: Spot,

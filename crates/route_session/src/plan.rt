@@ -13,7 +13,7 @@ use protocol::{Answer, PROXIES, Port, REQUESTS, Reply, SocksConfig, Version};
 use route_delivery::Hop;
 
 // A part of a lent text: from a place on so many bytes, as far as the text goes.
-#[derive(Drop)]
+#[derive(Clone, Copy)]
 pub struct Part {
     pub from: usize,
     pub len: usize,
@@ -21,7 +21,7 @@ pub struct Part {
 
 // A proxy, whose host and credentials are parts of a lent text. proxy_auth: it is given user and password. optimistic: all requests go
 // at once. Over v4 these are ignored.
-#[derive(Drop)]
+#[derive(Clone, Copy)]
 pub struct Proxy {
     pub version: Version,
     pub host: Part,
@@ -127,7 +127,7 @@ fn keep(
 }
 
 // What preparing all from a proxy on answers, and what is then kept.
-#[derive(Drop)]
+#[derive(Clone, Copy)]
 pub struct Planned {
     pub answer: Answer,
     pub hops: [Hop; PROXIES],

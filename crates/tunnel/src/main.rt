@@ -29,7 +29,7 @@ fn print_sent(out: &[u8], n: usize)
 }
 
 // An outcome's number, 0 if it is open, and its status.
-#[derive(Drop)]
+#[derive(Clone, Copy)]
 struct Numbers {
     number: u8,
     status: u8,
@@ -95,7 +95,7 @@ fn waits(session: Session) -> bool {
 }
 
 // The session, how many bytes it used, and how many were left.
-#[derive(Drop)]
+#[derive(Clone, Copy)]
 struct Course {
     session: Session,
     used: u64,
