@@ -1,0 +1,7 @@
+use Rattle.buffers.proofs.write.Laws.{then}
+use Rattle.protocol.specs.Requests.{request}
+use Rattle.requests.proofs.v4.put_address.Goals as goal
+
+pub returns : goal.returns
+unfolding request
+returns c = then (then c.put_head-a.ensures c.copy-b.ensures) c.put_byte.ensures

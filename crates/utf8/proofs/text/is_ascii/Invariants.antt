@@ -1,0 +1,12 @@
+use Prim.Native.Nat.{◌-◌}
+use mathlib.Core.Path.{◌≡◌}
+use lib.ListN.{length, drop}
+use Rattle.protocol.specs.declared.Utf8State.TheVariants.{Boundary}
+use Rattle.protocol.specs.Utf8.{scan}
+use Rattle.utf8.proofs.text.is_ascii.Given as goal
+
+abbrev pub invariant-loop-i : goal.invariant-loop-i
+invariant-loop-i l = scan Boundary (drop l.i l.s) ≡ scan Boundary l.s
+
+abbrev pub decreases-loop-i : goal.decreases-loop-i
+decreases-loop-i l = length l.s - l.i
