@@ -33,7 +33,7 @@ use Rattle.proxy.specs.Served.{outcome_by, target_by, handed_out, Served}
 use Rattle.proxy.specs.Turns.{Given, Tells}
 use Rattle.proxy.proofs.Tunnels.{all_served}
 use Rattle.proxy.proofs.Turns.{is_asked}
-use Rattle.proxy.proofs.Answered.{all_answering, answer_unsent}
+use Rattle.proxy.proofs.Answering.{all_answering, answer_unsent}
 use Rattle.talk.specs.Tunnel.{Receiver, Delivery, joined}
 use Rattle.both_ends.specs.Ends.{version_of, wanted_by, Sendable, SameCredentials, answer_to, all_sent, all_replies, all_requests, Arrived, Met}
 use Rattle.both_ends.specs.Meet.{client_receiver, end_receiver, client_tunnel, end_tunnel, answered, sent_by_end, Exchanged, Meeting, Meets, Exchanges, BothMeet, BothExchange}

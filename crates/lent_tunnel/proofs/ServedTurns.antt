@@ -26,7 +26,7 @@ use Rattle.proxy.specs.Turns as plain
 use Rattle.proxy.specs.Turns.{Tells, nowhere}
 use Rattle.proxy.proofs.Turns.{in_turn, answer_used, end_counts}
 use Rattle.proxy.proofs.Tunnels.{setting_up}
-use Rattle.proxy.proofs.Answered.{all_answering}
+use Rattle.proxy.proofs.Answering.{all_answering}
 use Rattle.raw_numbers.specs.Numbers.{truth}
 use Rattle.lent_numbers.specs.declared.told.RawOutcome.{RawOutcome}
 use Rattle.lent_proxy.specs.State.{server_at, state_of}

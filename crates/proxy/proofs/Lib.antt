@@ -1,5 +1,5 @@
 pub mod Tunnels
 pub mod Turns
-pub mod Answered
+pub mod Answering
 pub mod Wants
 pub mod Claims

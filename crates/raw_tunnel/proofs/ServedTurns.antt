@@ -22,7 +22,7 @@ use Rattle.proxy_session.specs.Calls.{Call, refusal, set_up, deliver, answer, en
 use Rattle.proxy.specs.Turns.{Tells, nowhere}
 use Rattle.proxy.proofs.Turns.{in_turn, answer_used, end_counts}
 use Rattle.proxy.proofs.Tunnels.{setting_up}
-use Rattle.proxy.proofs.Answered.{all_answering}
+use Rattle.proxy.proofs.Answering.{all_answering}
 use Rattle.raw_numbers.specs.Numbers.{truth}
 use Rattle.raw_session.specs.declared.RawOutcome.{RawOutcome}
 use Rattle.raw_server.specs.declared.RawServer.{RawServer}
