@@ -1,5 +1,4 @@
 pub mod Prepared
-pub mod TwoCalls
 pub mod Walked
 pub mod Judges
 pub mod Own
