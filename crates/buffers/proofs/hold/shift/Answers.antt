@@ -1,7 +1,6 @@
 use borrow.Author.Rules.{rules}
 use native.Mathlib.Omega.{arith}
 use mathlib.Core.Path.{◌≡◌, ap, ◌∙◌}
-use Prim.Native.Nat.{◌-◌}
 use lib.ListN.{drop}
 use lib.Seq.{paste, paste-zero}
 use Rattle.buffers.proofs.hold.Rest.{moved, all_moved, moved_length}
