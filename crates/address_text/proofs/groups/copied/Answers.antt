@@ -17,7 +17,7 @@ bounds-out-at c =
     let (x, y) = sixteen c.before.before in
     let p = c.requires in
     let t = c.loop-i-test.true in
-    let h = ap length l.invariant.1 ∙ length-paste a.t1 a.at a.t3 l.i (omega arith) (omega arith) in
+    let h = ap length l.invariant.1 ∙ length-paste a.out a.at a.src l.i (omega arith) (omega arith) in
     omega arith
 
 pub loop-i-preserved : goal.loop-i-preserved
@@ -27,7 +27,7 @@ loop-i-preserved c =
     let (x, y) = sixteen c.before.before in
     let p = c.requires in
     let t = c.loop-i-test.true in
-    (omega arith, rw (l.invariant.1, add-one) (paste-suc a.t1 a.at a.t3 l.i 0 (omega arith) (omega arith)))
+    (omega arith, rw (l.invariant.1, add-one) (paste-suc a.out a.at a.src l.i 0 (omega arith) (omega arith)))
 
 pub returns : goal.returns
 returns c =
@@ -36,4 +36,4 @@ returns c =
     let h = l.invariant.0 in
     let t = c.loop-i-test.false in
     let e : l.i ≡ a.n = omega arith in
-    l.invariant.1 ∙ ap (paste a.t1 a.at a.t3) e
+    l.invariant.1 ∙ ap (paste a.out a.at a.src) e

@@ -35,7 +35,7 @@ pub loop-i-preserved : goal.loop-i-preserved
 loop-i-preserved c =
     let l = c.loop-i in
     let d = c.wrapping_sub_u8 in
-    rw c.higher-top.ensures (turn c.args.host.now l.top d.result l.i c.loop-i-test.true (search rules) d.ensures ∙ l.invariant)
+    rw c.higher-top.ensures (turn c.args.host.now l.top d.result l.i c.loop-i-test.true (search rules) d.ensures.value ∙ l.invariant)
 
 pub returns : goal.returns
 unfolding all_allowed
