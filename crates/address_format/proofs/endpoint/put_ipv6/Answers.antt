@@ -18,4 +18,4 @@ pub returns : goal.returns
 returns c =
     let g = c.put_groups-end in
     let s = simp length-set at c.put_groups-end.ensures.adds.same in
-    record { upper_bound = search rules; adds = brackets c.args.bytes.now c.groups_of-groups.result c.groups_of-groups.ensures.1 (one _ _ _ (omega arith)) g.ensures.1 (one _ _ _ (omega (arith, g.ensures.0))) }
+    record { upper_bound = search rules; adds = brackets c.args.bytes.now c.groups_of-groups.result c.groups_of-groups.ensures.1 (one _ _ _ (omega arith)) g.ensures.adds (one _ _ _ (omega (arith, g.ensures.upper_bound))) }

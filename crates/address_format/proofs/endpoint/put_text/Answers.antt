@@ -10,7 +10,7 @@ use Rattle.address_format.proofs.endpoint.put_text.Goals as goal
 pub put_digits-requires : goal.put_digits-requires
 put_digits-requires c =
     let h = c.put_host-end in
-    (search rules, (search rules, room _ _ _ _ (omega arith) (omega (arith, c.wide.ensures)) (simp length-set (omega (arith, h.ensures.0, h.ensures.1.same)))))
+    (search rules, (search rules, room _ _ _ _ (omega arith) (omega (arith, c.wide.ensures)) (simp length-set (omega (arith, h.ensures.upper_bound, h.ensures.adds.same)))))
 
 pub shape_of-out : goal.shape_of-out
 shape_of-out c = omega (arith, simp length-set at c.put_digits.ensures.same, c.put_host-end.ensures.adds.same)
@@ -22,4 +22,4 @@ returns c =
     let w = c.wide in
     let d = c.put_digits in
     let f = five 10 w.result (omega arith) (omega (arith, w.ensures)) in
-    record { upper_bound = omega (arith, h.ensures.0, d.ensures.place); adds = text_of_lem (kind_of a.kind a.bytes.now) a.port w.result w.ensures h.ensures.1 (one _ _ _ (omega (arith, h.ensures.0, h.ensures.1.same))) d.ensures }
+    record { upper_bound = omega (arith, h.ensures.upper_bound, d.ensures.place); adds = text_of_lem (kind_of a.kind a.bytes.now) a.port w.result w.ensures h.ensures.adds (one _ _ _ (omega (arith, h.ensures.upper_bound, h.ensures.adds.same))) d.ensures }

@@ -49,4 +49,4 @@ returns c =
     let p = c.put_row-end in
     let q = c.put_row in
     let g = b.args in
-    record { upper_bound = omega (arith, front b, back b, p.ensures.0, q.ensures.0); adds = rows g.groups.now g.start g.behind p.ensures.1 (two _ _ _ _ (omega (arith, front b, p.ensures.1.same))) q.ensures.1 }
+    record { upper_bound = omega (arith, front b, back b, p.ensures.upper_bound, q.ensures.upper_bound); adds = rows g.groups.now g.start g.behind p.ensures.adds (two _ _ _ _ (omega (arith, front b, p.ensures.adds.same))) q.ensures.adds }

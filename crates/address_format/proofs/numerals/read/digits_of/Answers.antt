@@ -1,7 +1,6 @@
 use borrow.Author.Rules.{rules}
 use Rattle.address_format.proofs.numerals.Reading.{digit_range, digit_more, no_digit}
 use Rattle.address_format.specs.numerals.Read.{is_digit, digits_from}
-use borrow.Author.Tests.{not-true, not-false}
 use mathlib.Core.Bool.{true}
 use lib.Seq.{drop-length}
 use lib.ListN.{length, drop, get_or}
@@ -15,7 +14,7 @@ use Rattle.address_format.proofs.numerals.read.digits_of.Goals as goal
 
 -- behind the test: a digit, and room for it
 digit : (c : Else-not-is_digit) → is_digit (get_or c.args.text.now c.loop-i.i 0) ≡ true
-digit c = sym c.is_digit.ensures ∙ not-false c.is_digit.result c.if-not-is_digit.false
+digit c = sym c.is_digit.ensures ∙ c.if-not-is_digit.false
 
 range : (c : Else-not-is_digit) → (48 ≤ get_or c.args.text.now c.loop-i.i 0) × (get_or c.args.text.now c.loop-i.i 0 ≤ 57)
 range c = digit_range (get_or c.args.text.now c.loop-i.i 0) (digit c)
@@ -27,7 +26,7 @@ pub loop-i-init : goal.loop-i-init
 loop-i-init c = (search rules, (search rules, refl))
 
 pub returns-then-not-is_digit : goal.returns-then-not-is_digit
-returns-then-not-is_digit c = c.no_number.ensures ∙ no_digit _ _ c.loop-i.value c.loop-i-test.true (sym c.is_digit.ensures ∙ not-true c.is_digit.result c.if-not-is_digit.true) ∙ c.loop-i.invariant.1.1
+returns-then-not-is_digit c = c.no_number.ensures ∙ no_digit _ _ c.loop-i.value c.loop-i-test.true (sym c.is_digit.ensures ∙ c.if-not-is_digit.true) ∙ c.loop-i.invariant.1.1
 
 pub overflow_mul-value : goal.overflow_mul-value
 overflow_mul-value c = omega (arith, small c, c.loop-i.invariant.1.0)
