@@ -1,4 +1,5 @@
-use borrow.Author.Tests.{ne_eqb}
+use native.Mathlib.Omega.{arith}
+use Rattle.std.proofs.lemmas.Bool.Decides.{nat_tests}
 use Rattle.protocol.specs.Utf8.{first}
 use Rattle.utf8.proofs.classes.first.Goals as goal
 
@@ -36,14 +37,4 @@ returns-in-10 c = rw c.in-10.is
 
 pub returns-in_default : goal.returns-in_default
 unfolding first
-returns-in_default c =
-    simp (
-      ne_eqb _ _ c.in-0.rest.0.0.0.0.0.0.0.1,
-      ne_eqb _ _ c.in-0.rest.0.0.0.0.0.0.1,
-      ne_eqb _ _ c.in-0.rest.0.0.0.0.0.1,
-      ne_eqb _ _ c.in-0.rest.0.0.0.0.1,
-      ne_eqb _ _ c.in-0.rest.0.0.0.1,
-      ne_eqb _ _ c.in-0.rest.0.0.1,
-      ne_eqb _ _ c.in-0.rest.0.1,
-      ne_eqb _ _ c.in-0.rest.1,
-    )
+returns-in_default c = grind (arith, nat_tests)

@@ -1,4 +1,3 @@
-use Prim.Native.Nat.{◌-◌}
 use mathlib.Core.Path.{refl, ap, ◌∙◌}
 use Rattle.protocol.specs.Utf8.{next}
 use Rattle.utf8.proofs.text.Laws.{turn, at_end}
