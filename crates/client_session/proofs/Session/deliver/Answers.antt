@@ -13,4 +13,4 @@ pub returns : goal.returns
 returns c =
     let start = c.before.before.before.before.before.before.before.before.before.before.before.before.before.before.before.before.before in
     let a = start.args in
-    delivers a.self a.piece.now a.out.now c.receive-received.ensures (attempts_small start) c.wrapping_add_u64.ensures (bytes_long start) c.send.ensures
+    delivers a.self a.piece.now a.out.now c.receive-received.ensures (attempts_small start) c.wrapping_add_u64.ensures.value (bytes_long start) c.send.ensures
