@@ -1,11 +1,9 @@
 use Prim.Native.Nat.{ℕ, ◌+◌, ◌≤◌}
 use native.Mathlib.Omega.{arith}
-use mathlib.Core.Path.{◌≡◌, sym}
-use lib.ListN.{length}
+use mathlib.Core.Path.{sym}
 use Rattle.client_opening.proofs.common.Targets.{four_long, four_size}
 use Rattle.client_opening_v4.proofs.kept.Keeping.{four, named, asks}
 use borrow.Author.Rules.{rules}
-use Rattle.client_opening_v4.proofs.kept.put_request.Goals.{Start}
 use Rattle.client_opening_v4.proofs.kept.put_request.Goals as goal
 
 address_room : {room : ℕ} → 1024 ≤ room → 0 + 9 ≤ room
@@ -14,21 +12,16 @@ address_room h = omega arith
 name_room : {n room : ℕ} → n ≤ 1014 → 1024 ≤ room → 0 + (n + 10) ≤ room
 name_room h k = omega arith
 
-sixteen : (c : Start) → length c.args.asked.bytes ≡ 16
-sixteen c = search rules
-
 pub slice_bounds-ip-end : goal.slice_bounds-ip-end
-slice_bounds-ip-end c = four_long (sixteen c.before.before.before.before.before.before.before)
+slice_bounds-ip-end c = four_long (search rules)
 
 pub slice_bounds-put_address-end : goal.slice_bounds-put_address-end
 slice_bounds-put_address-end c =
-    let start = c.before.before.before.before.before.before.before.before in
-    four_size start.args.asked.bytes (sixteen start)
+    four_size c.args.asked.bytes (search rules)
 
 pub put_address-requires : goal.put_address-requires
 put_address-requires c =
-    let start = c.before.before.before.before.before.before.before.before in
-    (sym (four_size start.args.asked.bytes (sixteen start)), address_room start.requires.0)
+    (sym (four_size c.args.asked.bytes (search rules)), address_room c.requires.0)
 
 pub put_name-requires : goal.put_name-requires
 put_name-requires c =

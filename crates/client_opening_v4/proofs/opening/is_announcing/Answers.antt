@@ -1,15 +1,9 @@
-use mathlib.Core.Path.{◌≡◌}
-use lib.ListN.{length}
 use Rattle.client_opening_v4.proofs.opening.Preparing.{sixteen_silent}
 use borrow.Author.Rules.{rules}
-use Rattle.client_opening_v4.proofs.opening.is_announcing.Goals.{Start}
 use Rattle.client_opening_v4.proofs.opening.is_announcing.Goals as goal
-
-sixteen : (c : Start) → length c.args.asked.bytes ≡ 16
-sixteen c = search rules
 
 pub returns-in-Ipv4 : goal.returns-in-Ipv4
 returns-in-Ipv4 c = rw c.in-Ipv4.is c.announces_name.ensures
 
 pub returns-in-Ipv6 : goal.returns-in-Ipv6
-returns-in-Ipv6 c = rw c.in-Ipv6.is (sixteen_silent c.args.asked.bytes (sixteen c.before.before.before))
+returns-in-Ipv6 c = rw c.in-Ipv6.is (sixteen_silent c.args.asked.bytes (search rules))
