@@ -6,7 +6,6 @@ use lib.ListN.{length, take, length-take}
 use Rattle.client_opening.proofs.common.Targets.{four_long, four_size}
 use Rattle.client_opening_v5.proofs.kept.Keeping.{proxy_room, four, six, named, asks}
 use borrow.Author.Rules.{rules}
-use Rattle.client_opening_v5.proofs.kept.put_proxy.Goals.{Start}
 use Rattle.client_opening_v5.proofs.kept.put_proxy.Goals as goal
 
 four_small : (bs : List ℕ) → length (take 4 bs) ≤ 255
@@ -15,14 +14,11 @@ four_small bs = omega (arith, length-take 4 bs)
 six_small : {n : ℕ} → n ≡ 16 → n ≤ 255
 six_small l = omega arith
 
-sixteen : (c : Start) → length c.args.asked.bytes ≡ 16
-sixteen c = search rules
-
 pub slice_bounds-ip-end : goal.slice_bounds-ip-end
-slice_bounds-ip-end c = four_long (sixteen c.before.before.before.before.before.before.before)
+slice_bounds-ip-end c = four_long (search rules)
 
 pub slice_bounds-put_proxy_req-end : goal.slice_bounds-put_proxy_req-end
-slice_bounds-put_proxy_req-end c = let start = c.before.before.before.before.before.before.before.before in four_size start.args.asked.bytes (sixteen start)
+slice_bounds-put_proxy_req-end c = four_size c.args.asked.bytes (search rules)
 
 pub put_proxy_req-requires : goal.put_proxy_req-requires
 put_proxy_req-requires c =
@@ -31,9 +27,8 @@ put_proxy_req-requires c =
 
 pub put_proxy_req-requires-in-Ipv6 : goal.put_proxy_req-requires-in-Ipv6
 put_proxy_req-requires-in-Ipv6 c =
-    let start = c.before.before.before.before.before.before.before.before in
-    let a = start.args in
-    proxy_room a.asked.kind (length a.asked.bytes) a.at (length a.bytes.now) (six_small (sixteen start)) start.requires.1
+    let a = c.args in
+    proxy_room a.asked.kind (length a.asked.bytes) a.at (length a.bytes.now) (six_small (search rules)) c.requires.1
 
 pub put_proxy_req-requires-in-Domain : goal.put_proxy_req-requires-in-Domain
 put_proxy_req-requires-in-Domain c =

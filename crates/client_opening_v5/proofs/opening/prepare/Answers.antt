@@ -1,0 +1,9 @@
+use mathlib.Core.Path.{◌∙◌}
+use Rattle.client_opening.proofs.common.Records.{by_list5}
+use Rattle.client_opening_v5.proofs.opening.prepare.Goals as goal
+
+pub returns : goal.returns
+returns c =
+    let a = c.args in
+    let e = c.read_host-read.ensures in
+    c.prepare_read.ensures e ∙ by_list5 a.config a.host.now a.port a.user.now a.password.now a.records.now c.wanted5-most.result c.choose-chosen.result (c.wanted5-most.ensures e) c.choose-chosen.ensures
