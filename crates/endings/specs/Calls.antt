@@ -10,7 +10,6 @@ use Rattle.route_spec.specs.Route.{asked, openings, check_in_turn}
 use Rattle.endings_spec.specs.declared.OutcomeStatus.{OutcomeStatus}
 use Rattle.endings_spec.specs.Streams.{stream_for, stream_at}
 use Rattle.endings.specs.declared.Produced.{Produced}
-use Rattle.endings.specs.declared.Produced.TheVariants as Produced
 
 pub record Call : Type 0 where
   pub answer : Produced

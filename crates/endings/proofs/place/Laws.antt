@@ -14,7 +14,6 @@ use Rattle.protocol.specs.declared.Answer.TheVariants.{Accepted}
 use Rattle.buffers.specs.write.Written.{overwrite, Wrote}
 use Rattle.buffers.proofs.write.Laws.{wrote_length}
 use Rattle.endings.specs.declared.Produced.{Produced}
-use Rattle.endings.specs.declared.Produced.TheVariants as Produced
 use Rattle.endings.specs.Calls.{Call, StreamResult, unwritten, produced}
 
 -- nothing is written

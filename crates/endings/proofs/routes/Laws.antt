@@ -23,7 +23,6 @@ use Rattle.endings_spec.specs.declared.Kind.TheVariants.{WithoutCredentials, Wit
 use Rattle.endings_spec.specs.declared.OutcomeStatus.{OutcomeStatus}
 use Rattle.endings_spec.specs.Streams.{open_stream, stream_of, joined, stream_at}
 use Rattle.endings.specs.declared.Produced.{Produced}
-use Rattle.endings.specs.declared.Produced.TheVariants as Produced
 use Rattle.endings.specs.declared.words.Word.{Word}
 use Rattle.endings.specs.declared.routes.Row.{Row}
 use Rattle.endings.specs.Calls.{StreamResult, produced, check_route, stream_route}

@@ -1,0 +1,8 @@
+use Rattle.endings.proofs.Prepared.{prepared5}
+use Rattle.endings.proofs.place.Laws.{as_call}
+use Rattle.endings.proofs.v5.stream.Goals as goal
+
+pub returns : goal.returns
+returns c =
+    let a = c.args in
+    as_call (prepared5 (record { config = a.config; host = a.host.now; port = a.port; user = a.user.now; password = a.password.now; records = a.records.now }) a.wanted a.buffer.now c.prepare-prepared.ensures) c.stream_prepared.ensures
