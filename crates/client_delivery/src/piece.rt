@@ -107,7 +107,7 @@ fn came_to(
     }
 }
 
-// TakeResult a piece behind the first n bytes of the hold. Where they are too few to decide anything all are held.
+// Takes a piece behind the first n bytes of the hold. Where they are too few to decide anything all are held.
 pub fn take(
     lengths: Lengths,
     reply: Reply,

@@ -1,6 +1,5 @@
 -- What the client's talk lacks at a stage, of which so much is held.
-use Prim.Native.Nat.{ℕ, ◌+◌, ◌-◌, ◌≤◌, ◌<◌}
-use native.Mathlib.Nat.{add-zero}
+use Prim.Native.Nat.{ℕ, ◌+◌, ◌-◌, ◌≤◌}
 use native.Mathlib.Omega.{arith}
 use mathlib.Core.Path.{◌≡◌, refl, ap, sym, ◌∙◌}
 use mathlib.Core.Bool.{Bool, true, false, cond, true≢false}
@@ -8,11 +7,9 @@ use mathlib.Core.List.{List, [], ◌++◌}
 use lib.ListN.{length, length-append}
 use lib.Dec.{ltb}
 use borrow.Author.Tests.{ltb-true}
-use Rattle.protocol.specs.declared.AuthMethod.{AuthMethod}
 use Rattle.protocol.specs.declared.AuthMethod.TheVariants.{NoAuth, UserPass, NoneAcceptable}
 use Rattle.protocol.specs.declared.Reply.{Reply}
 use Rattle.protocol.specs.declared.Reply.TheVariants.{NegotiationRes, AuthenticationRes, ProxyRes, Response}
-use Rattle.protocol.specs.declared.Verdict.{Verdict}
 use Rattle.protocol.specs.declared.Verdict.TheVariants.{Good, Bad}
 use Rattle.protocol.specs.declared.Decision.{Decision}
 use Rattle.protocol.specs.declared.Decision.TheVariants.{Undecided, Decided}
@@ -25,7 +22,7 @@ use Rattle.protocol.proofs.Sequences.{untold}
 use Rattle.protocol.proofs.Wants.{DecidedBehind, Turn, Rest, Lacks, lacks_await, least_done}
 use Rattle.talk.specs.Decision as talk
 use Rattle.talk.specs.Talk.{done, stop, await}
-use Rattle.client_delivery.specs.wants.Wants.{begins_with, may_connect, proxy_least, least_size, lacking, behind, may_follow, wants_for}
+use Rattle.client_delivery.specs.wants.Wants.{begins_with, may_connect, proxy_least, least_size, lacking, wants_for}
 use Rattle.client_delivery.specs.wants.Still.{proxy_still, good_still}
 use Rattle.client_delivery.proofs.wants.Laws.{lacks_some}
 use Rattle.client_delivery.proofs.wants.Short.{Facts, no_auth, user_pass, none_acceptable, authentication, response}

@@ -1,13 +1,13 @@
 -- What a connect reply lacks of being good, or else decided.
-use Prim.Native.Nat.{ℕ, zero, suc, ◌+◌, ◌-◌, ◌≤◌, ◌<◌, min}
+use Prim.Native.Nat.{ℕ, zero, suc, ◌+◌, ◌-◌, ◌≤◌, ◌<◌}
 use native.Mathlib.Omega.{arith}
-use mathlib.Core.Path.{◌≡◌, refl, ap, sym, subst, ◌∙◌}
+use mathlib.Core.Path.{◌≡◌, refl, ap, sym, ◌∙◌}
 use mathlib.Core.Bool.{Bool, true, false, cond, ◌&&◌, ◌||◌, not, true≢false, false≢true}
 use mathlib.Core.List.{List, [], ◌∷◌, ◌++◌}
-use lib.ListN.{length, take, drop, replicate, length-append, length-take, length-replicate}
+use lib.ListN.{length, take, replicate, length-append, length-take, length-replicate}
 use lib.Seq.{take_at, length-take-le}
-use lib.Dec.{leb, ltb, eqb, lit≤}
-use borrow.Author.Tests.{leb-true, leb-false, le-leb, lt-ltb, le-ltb, eqb-true, eqb-false, eq-eqb, ne_eqb}
+use lib.Dec.{leb, eqb, lit≤}
+use borrow.Author.Tests.{leb-true, leb-false, le-ltb, eqb-true, eqb-false, ne_eqb}
 use Rattle.protocol.specs.declared.SocksError.TheVariants.{Parsing, Command}
 use Rattle.protocol.specs.declared.Reply.TheVariants.{ProxyRes}
 use Rattle.protocol.specs.declared.Utf8State.TheVariants.{Boundary}
@@ -21,10 +21,10 @@ use Rattle.protocol.specs.Replies.{upon, head_allowed, type_allowed, proxy_size,
 use Rattle.protocol.proofs.Bytes.{are_bytes, bytes_are, bytes_zeros, bytes_join}
 use Rattle.protocol.proofs.Tests.{both}
 use Rattle.protocol.proofs.Utf8.{utf8_just}
-use Rattle.protocol.proofs.Words.{upon_yes, proxy_whole, Connected, tests, head_is, Typed, is4, is6, is_name, type_is, verdict_is}
+use Rattle.protocol.proofs.Words.{upon_yes, proxy_whole, tests, head_is, Typed, is4, is6, is_name, type_is, verdict_is}
 use Rattle.utf8.proofs.text.Laws.{scan_append}
 use Rattle.client_delivery.specs.wants.Wants.{begins_with, may_connect, size_from, proxy_least}
-use Rattle.client_delivery.specs.wants.Still.{ends_within, name_still, type_still, proxy_still}
+use Rattle.client_delivery.specs.wants.Still.{name_still, type_still, proxy_still}
 use Rattle.client_delivery.proofs.wants.Texts.{ends_within_lem, can_end}
 use Rattle.client_delivery.proofs.wants.Short.{Facts, upon_late, decided_not, filled}
 

@@ -2,7 +2,7 @@
 use Prim.Native.Nat.{ℕ, ◌+◌, ◌-◌, ◌≤◌, ◌<◌, min}
 use native.Mathlib.Omega.{arith}
 use mathlib.Core.Path.{◌≡◌, refl, ap, sym, ◌∙◌}
-use mathlib.Core.Bool.{Bool, true, false, ◌&&◌, ◌||◌}
+use mathlib.Core.Bool.{Bool, true, false}
 use mathlib.Core.List.{List, [], ◌∷◌}
 use lib.ListN.{length, take, drop, length-take, length-drop}
 use lib.Dec.{eqb}
@@ -15,7 +15,7 @@ use Rattle.protocol.specs.Bytes.{byte}
 use Rattle.protocol.specs.Utf8.{scan}
 use Rattle.protocol.specs.Replies.{name_field}
 use Rattle.client_delivery.specs.wants.Wants.{begins_with, may_connect, proxy_least, lacking, behind, wants_for}
-use Rattle.client_delivery.specs.wants.Still.{ends_within, name_still, type_still, proxy_still, response_still, good_still}
+use Rattle.client_delivery.specs.wants.Still.{ends_within, name_still, type_still, proxy_still, response_still}
 use Rattle.buffers.proofs.write.Parts.{take_min}
 
 pub name_read : (h : List ℕ) {end to : ℕ} {st : Utf8State} {r : Bool} → (end ≡ 5 + byte h 4) × (end ≤ 260) → 5 ≤ length h → to ≡ min end (length h)

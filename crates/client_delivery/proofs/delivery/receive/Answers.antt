@@ -15,5 +15,4 @@ returns-in-Open c =
 pub returns-in-Failed : goal.returns-in-Failed
 returns-in-Failed c =
     let a = c.args in
-    let e = c.stage-in-Failed-1.given in
-    rw e.1 (receives_settled a.started a.held a.lengths a.hold.now a.piece.now a.room a.bound (Failed e.0.0) refl c.unchanged-in-Failed.ensures)
+    rw c.in-Failed.is (receives_settled a.started a.held a.lengths a.hold.now a.piece.now a.room a.bound (Failed c.in-Failed.error) refl c.unchanged-in-Failed.ensures)

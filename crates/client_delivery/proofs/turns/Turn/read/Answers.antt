@@ -1,16 +1,9 @@
 use native.Mathlib.Omega.{arith}
 use mathlib.Core.Path.{sym}
 use mathlib.Core.List.{◌++◌}
-use Prim.Native.Nat.{◌+◌, ◌<◌, ◌^◌}
-use lib.ListN.{length, length-append}
+use lib.ListN.{length-append}
 use Rattle.client_delivery.proofs.turns.Turning.{turn_undecided, turn_decided_lem, decided_inside, judged_small}
-use borrow.Author.Rules.{rules}
-use Rattle.client_delivery.proofs.turns.Turn.read.Goals.{After-shared_slice_known-2-1}
 use Rattle.client_delivery.proofs.turns.Turn.read.Goals as goal
-
--- the lengths of two slices can be added
-both_fit : (c : After-shared_slice_known-2-1) → length c.args.held.now + length c.args.piece.now < 2 ^ 64
-both_fit c = search rules
 
 pub overflow_add-place : goal.overflow_add-place
 overflow_add-place c =
@@ -18,7 +11,6 @@ overflow_add-place c =
     let p = c.requires in
     let l = length-append a.held.now a.piece.now in
     let i = decided_inside a.lengths a.reply (a.held.now ++ a.piece.now) a.self.begin a.self.place a.self.sent a.self.decided c.read_at.ensures.0 c.in-Decided.is (omega arith) in
-    let k = c.shared_slice_known-2-1.given in
     record { fits = omega arith }
 
 pub overflow_add-result : goal.overflow_add-result
@@ -29,9 +21,6 @@ overflow_add-result c =
 
 pub overflow_add-result-in-Decided : goal.overflow_add-result-in-Decided
 overflow_add-result-in-Decided c = let p = c.requires in record { fits = omega (arith, p.2) }
-
-pub overflow_add-held : goal.overflow_add-held
-overflow_add-held c = record { fits = both_fit c.before.before.before.before.before.before.before.before.before.before }
 
 pub returns-in-Undecided : goal.returns-in-Undecided
 returns-in-Undecided c =
