@@ -13,4 +13,4 @@ send-sent-requires c =
 pub returns : goal.returns
 returns c =
     let a = c.args in
-    record { value = refl; wrote = begins a.t1 a.bytes.now (a.spot.behind - 1) c.first_size-n.ensures c.send-sent.ensures }
+    record { value = refl; wrote = begins a.hops a.bytes.now (a.spot.behind - 1) c.first_size-n.ensures c.send-sent.ensures }

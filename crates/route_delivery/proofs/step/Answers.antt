@@ -1,5 +1,4 @@
 use Rattle.std.proofs.Common.{sym, ◌∙◌, rules}
-use borrow.Author.Tests.{not-true, not-false}
 use Rattle.route_delivery.proofs.Laws.{stops_here, begin_asks, goes_further}
 use Rattle.route_delivery.proofs.step.Goals as goal
 
@@ -7,14 +6,14 @@ pub returns-then-not-goes_on : goal.returns-then-not-goes_on
 returns-then-not-goes_on c =
     let a = c.args in
     let h = c.hand-here in
-    stops_here a.hops a.spot a.bytes.now a.hold.now a.piece.now a.out.now c.requires h.result h.ensures.0 (sym c.goes_on.ensures ∙ not-true c.goes_on.result c.if-not-goes_on.true)
+    stops_here a.hops a.spot a.bytes.now a.hold.now a.piece.now a.out.now c.requires h.result h.ensures.relay_result (sym c.goes_on.ensures ∙ c.if-not-goes_on.true)
 
 pub begin-begun-requires : goal.begin-begun-requires
 begin-begun-requires c =
     let a = c.args in
     let h = c.hand-here in
     let g = c.goes_on in
-    begin_asks a.hops a.spot a.bytes.now a.hold.now a.piece.now a.out.now c.requires h.result h.ensures.0 h.ensures.1.0 h.ensures.1.1 (sym g.ensures ∙ not-false g.result c.if-not-goes_on.false)
+    begin_asks a.hops a.spot a.bytes.now a.hold.now a.piece.now a.out.now c.requires h.result h.ensures.relay_result h.ensures.sent_bound.0 h.ensures.sent_bound.1 (sym g.ensures ∙ c.if-not-goes_on.false)
 
 pub returns : goal.returns
 returns c =
@@ -22,4 +21,4 @@ returns c =
     let h = c.hand-here in
     let g = c.goes_on in
     let b = c.begin-begun in
-    goes_further a.hops a.spot a.bytes.now a.hold.now a.piece.now a.out.now c.requires h.result h.ensures.0 h.ensures.1.0 h.ensures.1.1 (sym g.ensures ∙ not-false g.result c.if-not-goes_on.false) b.result b.ensures.0 b.ensures.1 (search rules)
+    goes_further a.hops a.spot a.bytes.now a.hold.now a.piece.now a.out.now c.requires h.result h.ensures.relay_result h.ensures.sent_bound.0 h.ensures.sent_bound.1 (sym g.ensures ∙ c.if-not-goes_on.false) b.result b.ensures.value b.ensures.wrote (search rules)
