@@ -140,7 +140,7 @@ fn open_sized(
     }
 }
 
-// OpenResult a route of so many proxies to a destination. Their hosts and credentials are parts of the text. The caller connects to the first,
+// Opens a route of so many proxies to a destination. Their hosts and credentials are parts of the text. The caller connects to the first,
 // whose own host and port are not looked at. All openings are checked before any byte goes, without local lookup. Refused if there is no
 // proxy or there are more than eight, or the output has less than 1,024 bytes for each, or an opening is.
 pub fn open(

@@ -1,5 +1,5 @@
 -- What an opening comes to, by its number of proxies, its output and what was planned.
-use Prim.Native.Nat.{ℕ, ◌+◌, ◌-◌, ◌*◌, ◌≤◌, ◌<◌}
+use Prim.Native.Nat.{ℕ, ◌-◌, ◌*◌, ◌≤◌, ◌<◌}
 use native.Mathlib.Omega.{arith}
 use mathlib.Core.Path.{◌≡◌, refl, ap, sym, subst, ◌∙◌}
 use mathlib.Core.Bool.{Bool, true, false, ◌||◌, true≢false}
@@ -22,7 +22,6 @@ use Rattle.route_session.specs.declared.plan.Proxy.{Proxy}
 use Rattle.route_session.specs.plan.Plan.{proxy_of, proxies_of, no_proxy, counted, route_of}
 use Rattle.route_spec.specs.Route as routing
 use Rattle.route_spec.specs.Route.{room_for, asked, asked_of, opening_for, unless_refused, check_in_turn, check, openings}
-use Rattle.route_session.specs.declared.calls.Route.{Route}
 use Rattle.route_session.specs.declared.calls.Opened.{Opened}
 use Rattle.route_session.proofs.calls.Laws.{written}
 use Rattle.route_session.specs.opening.First.{fresh_spot, opened_at}

@@ -1,13 +1,9 @@
-use mathlib.Core.Path.{◌≡◌, sym, ◌∙◌}
+use mathlib.Core.Path.{sym, ◌∙◌}
 use native.Mathlib.Omega.{arith}
 use lib.ListN.{length}
 use Rattle.route_session.proofs.opening.Laws.{size_has, opens_refused, opens_sized}
 use borrow.Author.Rules.{rules}
-use Rattle.route_session.proofs.opening.open.Goals.{Start}
 use Rattle.route_session.proofs.opening.open.Goals as goal
-
-eight : (c : Start) → length c.args.proxies ≡ 8
-eight c = search rules
 
 pub open_sized-requires : goal.open_sized-requires
 open_sized-requires c =
@@ -17,12 +13,10 @@ open_sized-requires c =
 
 pub returns-in-Accepted : goal.returns-in-Accepted
 returns-in-Accepted c =
-    let start = c.before.before.before.before.before.before.before.before.before.before.before in
-    let a = start.args in
-    opens_sized a.text.now a.proxies (eight start) a.count a.host.now a.port a.out.now c.size_answer-answer.ensures c.in-Accepted.is c.open_sized.ensures
+    let a = c.args in
+    opens_sized a.text.now a.proxies (search rules) a.count a.host.now a.port a.out.now c.size_answer-answer.ensures c.in-Accepted.is c.open_sized.ensures
 
 pub returns-in-Refused : goal.returns-in-Refused
 returns-in-Refused c =
-    let start = c.before.before.before.before.before.before.before.before.before in
-    let a = start.args in
-    opens_refused a.text.now a.proxies (eight start) a.count a.host.now a.port a.out.now c.size_answer-answer.ensures c.in-Refused.is c.refuse.ensures
+    let a = c.args in
+    opens_refused a.text.now a.proxies (search rules) a.count a.host.now a.port a.out.now c.size_answer-answer.ensures c.in-Refused.is c.refuse.ensures
