@@ -86,7 +86,7 @@ pub fn came_to(turn: Turn, hold: &mut [u8], n: usize, piece: &[u8], bound: Bound
     }
 }
 
-// TakeResult a piece behind the first n bytes of the hold.
+// Takes a piece behind the first n bytes of the hold.
 pub fn take(
     field: Field,
     authenticates: bool,
