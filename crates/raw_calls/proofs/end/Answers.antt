@@ -1,0 +1,5 @@
+use Rattle.raw_calls.proofs.Laws.{says_ended}
+use Rattle.raw_calls.proofs.end.Goals as goal
+
+pub returns : goal.returns
+returns c = says_ended c.args.session c.session_of-before.ensures c.end-made.ensures c.step.ensures

@@ -1,0 +1,51 @@
+use borrow.Author.Tests.{eq-eqb, ne_eqb}
+use Rattle.raw_errors.specs.Errors.{error_of, later_error, error_among}
+use Rattle.raw_errors.proofs.error_of.Goals as goal
+
+pub returns-then-n-eq1 : goal.returns-then-n-eq1
+unfolding error_of error_among
+returns-then-n-eq1 c = simp (eq-eqb _ _ c.if-n-eq1.true)
+
+pub returns-then-n-eq2 : goal.returns-then-n-eq2
+unfolding error_of error_among
+returns-then-n-eq2 c = simp (ne_eqb _ _ c.if-n-eq1.false, eq-eqb _ _ c.if-n-eq2.true)
+
+pub returns-then-n-eq3 : goal.returns-then-n-eq3
+unfolding error_of error_among
+returns-then-n-eq3 c = simp (ne_eqb _ _ c.if-n-eq1.false, ne_eqb _ _ c.if-n-eq2.false, eq-eqb _ _ c.if-n-eq3.true)
+
+pub returns-then-n-eq4 : goal.returns-then-n-eq4
+unfolding error_of error_among
+returns-then-n-eq4 c = simp (ne_eqb _ _ c.if-n-eq1.false, ne_eqb _ _ c.if-n-eq2.false, ne_eqb _ _ c.if-n-eq3.false, eq-eqb _ _ c.if-n-eq4.true)
+
+pub returns-then-n-eq5 : goal.returns-then-n-eq5
+unfolding error_of error_among
+returns-then-n-eq5 c = simp (ne_eqb _ _ c.if-n-eq1.false, ne_eqb _ _ c.if-n-eq2.false, ne_eqb _ _ c.if-n-eq3.false, ne_eqb _ _ c.if-n-eq4.false, eq-eqb _ _ c.if-n-eq5.true)
+
+pub returns-then-n-eq6 : goal.returns-then-n-eq6
+unfolding error_of error_among
+returns-then-n-eq6 c = simp (ne_eqb _ _ c.if-n-eq1.false, ne_eqb _ _ c.if-n-eq2.false, ne_eqb _ _ c.if-n-eq3.false, ne_eqb _ _ c.if-n-eq4.false, ne_eqb _ _ c.if-n-eq5.false, eq-eqb _ _ c.if-n-eq6.true)
+
+pub returns-then-n-eq7 : goal.returns-then-n-eq7
+unfolding error_of error_among
+returns-then-n-eq7 c = simp (ne_eqb _ _ c.if-n-eq1.false, ne_eqb _ _ c.if-n-eq2.false, ne_eqb _ _ c.if-n-eq3.false, ne_eqb _ _ c.if-n-eq4.false, ne_eqb _ _ c.if-n-eq5.false, ne_eqb _ _ c.if-n-eq6.false, eq-eqb _ _ c.if-n-eq7.true)
+
+pub returns-then-n-eq8 : goal.returns-then-n-eq8
+unfolding error_of error_among
+returns-then-n-eq8 c = simp (ne_eqb _ _ c.if-n-eq1.false, ne_eqb _ _ c.if-n-eq2.false, ne_eqb _ _ c.if-n-eq3.false, ne_eqb _ _ c.if-n-eq4.false, ne_eqb _ _ c.if-n-eq5.false, ne_eqb _ _ c.if-n-eq6.false, ne_eqb _ _ c.if-n-eq7.false, eq-eqb _ _ c.if-n-eq8.true)
+
+pub returns-then-n-eq9 : goal.returns-then-n-eq9
+unfolding error_of error_among
+returns-then-n-eq9 c = simp (ne_eqb _ _ c.if-n-eq1.false, ne_eqb _ _ c.if-n-eq2.false, ne_eqb _ _ c.if-n-eq3.false, ne_eqb _ _ c.if-n-eq4.false, ne_eqb _ _ c.if-n-eq5.false, ne_eqb _ _ c.if-n-eq6.false, ne_eqb _ _ c.if-n-eq7.false, ne_eqb _ _ c.if-n-eq8.false, eq-eqb _ _ c.if-n-eq9.true)
+
+pub returns-then-n-eq10 : goal.returns-then-n-eq10
+unfolding error_of error_among
+returns-then-n-eq10 c = simp (ne_eqb _ _ c.if-n-eq1.false, ne_eqb _ _ c.if-n-eq2.false, ne_eqb _ _ c.if-n-eq3.false, ne_eqb _ _ c.if-n-eq4.false, ne_eqb _ _ c.if-n-eq5.false, ne_eqb _ _ c.if-n-eq6.false, ne_eqb _ _ c.if-n-eq7.false, ne_eqb _ _ c.if-n-eq8.false, ne_eqb _ _ c.if-n-eq9.false, eq-eqb _ _ c.if-n-eq10.true)
+
+pub returns-then-n-eq12 : goal.returns-then-n-eq12
+unfolding error_of error_among
+returns-then-n-eq12 c = simp (ne_eqb _ _ c.if-n-eq1.false, ne_eqb _ _ c.if-n-eq2.false, ne_eqb _ _ c.if-n-eq3.false, ne_eqb _ _ c.if-n-eq4.false, ne_eqb _ _ c.if-n-eq5.false, ne_eqb _ _ c.if-n-eq6.false, ne_eqb _ _ c.if-n-eq7.false, ne_eqb _ _ c.if-n-eq8.false, ne_eqb _ _ c.if-n-eq9.false, ne_eqb _ _ c.if-n-eq10.false, eq-eqb _ _ c.if-n-eq12.true)
+
+pub returns : goal.returns
+unfolding error_of later_error error_among
+returns c = simp (ne_eqb _ _ c.if-n-eq1.false, ne_eqb _ _ c.if-n-eq2.false, ne_eqb _ _ c.if-n-eq3.false, ne_eqb _ _ c.if-n-eq4.false, ne_eqb _ _ c.if-n-eq5.false, ne_eqb _ _ c.if-n-eq6.false, ne_eqb _ _ c.if-n-eq7.false, ne_eqb _ _ c.if-n-eq8.false, ne_eqb _ _ c.if-n-eq9.false, ne_eqb _ _ c.if-n-eq10.false, ne_eqb _ _ c.if-n-eq12.false, ← c.later_error.ensures)

@@ -1,0 +1,15 @@
+use mathlib.Core.Path.{refl}
+use Rattle.raw_server.proofs.Laws.{asked_as, failed_as}
+use Rattle.raw_server.proofs.standing_of.Goals as goal
+
+pub returns-in-Awaiting : goal.returns-in-Awaiting
+returns-in-Awaiting c = rw c.in-Awaiting.is refl
+
+pub returns-in-Asked : goal.returns-in-Asked
+returns-in-Asked c = asked_as c.in-Asked.is c.success.ensures
+
+pub returns-in-Open : goal.returns-in-Open
+returns-in-Open c = rw c.in-Open.is refl
+
+pub returns-in-Failed : goal.returns-in-Failed
+returns-in-Failed c = failed_as c.in-Failed.is c.number.ensures c.status.ensures
