@@ -1,8 +1,11 @@
 // Standard input: a piece as a read gives it, or bytes kept in a lent buffer until they are read.
-ghost use Rattle.std.specs.Prelude.{◌≤◌, length};
+#![tactic(auto)]
 
-use libc::STDIN_FILENO;
+ghost use Rattle.std.specs.Prelude.{◌≤◌, length};
+ghost use Rattle.io.specs.Counts.{IsPrefixLen};
+
 use places::{byte_at, number_at, part, store};
+use std::io::{Read, Stdin};
 
 pub mod places;
 
@@ -22,12 +25,36 @@ pub fn new() -> Input {
     }
 }
 
+// Reads once, and says how many bytes came: none at the end, or if the read fails.
+pub fn read_some<R: Read>(from: &mut R, piece: &mut [u8]) -> usize
+    ensures { IsPrefixLen result piece.new }
+{
+    match from.read(piece) {
+        Ok(n) => n,
+        Err(_) => 0,
+    }
+}
+
+// Reads until the buffer is full, the end comes or a read fails, and says how many bytes came.
+pub fn read_full<R: Read>(from: &mut R, buffer: &mut [u8]) -> usize
+    ensures { IsPrefixLen result buffer.new }
+{
+    let mut done = 0;
+    while done < buffer.len() {
+        let n = read_some(from, &mut buffer[done..]);
+        if n == 0 {
+            break;
+        }
+        done += n;
+    }
+    done
+}
+
 // Reads a piece, and says how many bytes it has: none at the input's end.
-pub fn read_piece(piece: &mut [u8]) -> usize
+pub fn read_piece(mut stdin: Stdin, piece: &mut [u8]) -> usize
     ensures { result ≤ length piece.old }
 {
-    let got = libc::read(STDIN_FILENO, piece);
-    io::count(got, piece)
+    read_some(&mut stdin, piece)
 }
 
 // Moves the bytes from a place up to an end to the buffer's start, and says how many they are.
@@ -40,22 +67,22 @@ fn keep(buffer: &mut [u8], from: usize, end: usize) -> usize {
 }
 
 // Reads behind what is held, until the buffer is full or the input ends, and says how many bytes there are then.
-fn fill(buffer: &mut [u8], held: usize) -> usize {
+fn fill(mut stdin: Stdin, buffer: &mut [u8], held: usize) -> usize {
     if held > buffer.len() {
         return 0;
     }
-    held + io::read_full(STDIN_FILENO, &mut buffer[held..])
+    held + read_full(&mut stdin, &mut buffer[held..])
 }
 
 // At least n unread bytes, or all that the input has.
-fn want(input: Input, buffer: &mut [u8], n: usize) -> Input {
+fn want(stdin: Stdin, input: Input, buffer: &mut [u8], n: usize) -> Input {
     let at = input.at;
     let end = input.end;
     if input.ended || (at <= end && n <= end - at) {
         return input;
     }
     let held = keep(buffer, at, end);
-    let stop = fill(buffer, held);
+    let stop = fill(stdin, buffer, held);
     Input {
         at: 0,
         end: stop,
@@ -64,8 +91,8 @@ fn want(input: Input, buffer: &mut [u8], n: usize) -> Input {
 }
 
 // A whole unread text, its length first, or all that the input has.
-pub fn want_text(input: Input, buffer: &mut [u8]) -> Input {
-    let seen = want(input, buffer, 2);
+pub fn want_text(stdin: Stdin, input: Input, buffer: &mut [u8]) -> Input {
+    let seen = want(stdin, input, buffer, 2);
     let size = number_at(part(buffer, seen.at, seen.end), 0);
-    want(seen, buffer, 2 + size as usize)
+    want(stdin, seen, buffer, 2 + size as usize)
 }
