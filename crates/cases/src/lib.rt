@@ -1,4 +1,6 @@
 // What stands in a case, read where it stands (docs/CASES.md). A case ends NOWHERE if it is of a kind, version, family or call that is not known.
+#![tactic(auto)]
+
 use input::places::{NOWHERE, byte_at, number_at, past, text_end};
 use lookup::Lookup;
 use protocol::{Family, Port, Record, SocksConfig, Version};
