@@ -1,4 +1,3 @@
 pub mod Lists
-pub mod Held
 pub mod Came
 pub mod Returns

@@ -1,5 +1,8 @@
 // 01, "a small reader over the unread bytes that carries its place". The bytes stand in two slices, the held ones and then the piece, and are read where
 // they stand. Its method leaves the work to a function on the slices and a place.
+
+#![tactic(auto)]
+
 ghost use Rattle.std.specs.Prelude.{◌≡◌, ◌++◌, ◌+◌, ◌≤◌, ◌<◌, drop};
 ghost use Rattle.protocol.specs.Bytes.{byte, two_of};
 ghost use Rattle.reader.specs.Reader.{byte_at, bytes_at, two_at, three_at};
