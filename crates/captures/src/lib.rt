@@ -1,4 +1,7 @@
 // F-10: whether a capture is a lawful handshake of an opening, and whether a second one tells the same.
+
+#![tactic(auto)]
+
 mod alike;
 mod entries;
 mod judge;

@@ -1,5 +1,7 @@
 // 01, "The call: the session": the client's side of a SOCKS handshake: a session that is prepared, started, fed with pieces, and ended.
 
+#![tactic(auto)]
+
 ghost use Rattle.std.specs.Prelude.{◌≡◌, ◌≤◌, length};
 ghost use Rattle.protocol.specs.declared.Answer.TheVariants as Answer;
 ghost use Rattle.protocol.specs.declared.Outcome.TheVariants as Outcome;

@@ -1,4 +1,7 @@
 // F-12: the shortest reply stream that gives a wanted outcome and status when end of stream follows, for a session of either version and for a route.
+
+#![tactic(auto)]
+
 mod place;
 pub mod routes;
 pub mod v4;

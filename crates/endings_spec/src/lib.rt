@@ -1,5 +1,7 @@
 // F-12: to which outcome and status a stream of replies leads. Definitions and laws, in specs/ and proofs/, and the plain data that code shares with them.
 
+#![tactic(auto)]
+
 // An outcome's number, 0 for open, and its status.
 #[derive(Clone, Copy)]
 pub struct OutcomeStatus {

@@ -1,4 +1,7 @@
 // 01's number and status of a refusal or failure, and the number that an answer is told by.
+
+#![tactic(auto)]
+
 ghost use Rattle.std.specs.Prelude.{◌≡◌};
 ghost use Rattle.protocol.specs.Numbers.{number, status, answer_number};
 

@@ -1,5 +1,8 @@
 // What C and Rust link: each exported function is a call of the library over numbers and arrays, by value. The output that a call lends has
 // 1,024 bytes, which is as much as any asks, and the buffer of a text 261, which is as long as a text gets.
+
+#![tactic(auto)]
+
 ghost use Rattle.std.specs.Prelude.{◌≡◌, length};
 ghost use Rattle.proxy_spec.specs.End.{endpoint_of};
 ghost use Rattle.client_session.specs.Session.{write_bound};

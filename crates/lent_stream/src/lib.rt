@@ -1,4 +1,7 @@
 // F-12 for a foreign interface: the stream for an ending, of an opening in numbers and bytes.
+
+#![tactic(auto)]
+
 ghost use Rattle.std.specs.Prelude.{◌≡◌};
 ghost use Rattle.lent_stream.specs.Stream.{asked5, asked4, raw_stream, Streams};
 

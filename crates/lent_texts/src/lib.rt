@@ -1,4 +1,7 @@
 // Texts of errors and of statuses, for any foreign interface: bytes at the start of a lent buffer.
+
+#![tactic(auto)]
+
 ghost use Rattle.std.specs.Prelude.{[], ◌≤◌, ◌<◌, length, get_or};
 ghost use Rattle.lent_texts.specs.Texts.{error_text, status_text, Copies};
 ghost use Rattle.lent_texts.specs.Table.{texts, Picks};

@@ -1,1 +1,3 @@
 // F-13: the load, by definitions, and its laws, in specs/ and proofs/. There is no function.
+
+#![tactic(auto)]

@@ -1,5 +1,7 @@
 // 01 and 02: the plain data and the sizes that the definitions in specs/ and the code above share. There is no function.
 
+#![tactic(auto)]
+
 // A session's hold: a reply that is not decided has at most so many bytes (01; `undecided-261`).
 pub const HOLD: usize = 261;
 

@@ -1,4 +1,7 @@
 // F-3: what a whole field says, what follows it, and the destination that it names; and how many bytes are wanted.
+
+#![tactic(auto)]
+
 pub mod decision;
 pub mod destination;
 pub mod tests;

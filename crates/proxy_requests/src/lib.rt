@@ -1,4 +1,7 @@
 // F-3: the fields of a client's requests, read from the held bytes and the piece where they stand.
+
+#![tactic(auto)]
+
 ghost use Rattle.std.specs.Prelude.{◌≡◌, ◌++◌, cond, ◌+◌, ◌≤◌, length, drop, leb};
 ghost use Rattle.protocol.specs.Client.{told};
 ghost use Rattle.protocol.specs.declared.SocksError.TheVariants as SocksError;

@@ -1,4 +1,7 @@
 // F-3: the proxy's end of a SOCKS handshake: a value that is set up, fed with a client's pieces, answered for by its caller, and ended.
+
+#![tactic(auto)]
+
 ghost use Rattle.std.specs.Prelude.{◌≡◌, ◌≤◌, length};
 ghost use Rattle.protocol.specs.Bound.{unbound};
 ghost use Rattle.proxy_decisions.specs.destination.Last.{target_as};

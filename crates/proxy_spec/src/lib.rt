@@ -1,4 +1,7 @@
 // F-3: the proxy's end: the plain data that its definitions and the code above share. There is no function.
+
+#![tactic(auto)]
+
 use protocol::{SocksError, Version};
 
 // What a v4 request has between its version and its user id: CD, DSTPORT and DSTIP.

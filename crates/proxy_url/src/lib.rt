@@ -1,4 +1,7 @@
 // F-9: a proxy line read: version, local lookup, credentials, host and port; or 24 with the place at which the line goes wrong.
+
+#![tactic(auto)]
+
 mod credentials;
 mod endpoints;
 mod hosts;

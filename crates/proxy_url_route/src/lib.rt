@@ -1,5 +1,8 @@
 // F-9: a route from proxy lines: its proxies, whose hosts and credentials are written into a lent buffer; or 21, or 24 with the number of
 // the first line that is refused and the place in it.
+
+#![tactic(auto)]
+
 mod fields;
 mod lines;
 

@@ -1,4 +1,7 @@
 // How a proxy's end of numbers and arrays stands, and the destination that it hands out.
+
+#![tactic(auto)]
+
 ghost use Rattle.std.specs.Prelude.{◌≡◌};
 ghost use Rattle.proxy_session.specs.Server.{destination};
 ghost use Rattle.raw_server.specs.Raw.{server_of, standing_of};

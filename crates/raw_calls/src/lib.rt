@@ -1,4 +1,7 @@
 // The calls that move a session of numbers and arrays, each the library's on the session that they mean.
+
+#![tactic(auto)]
+
 ghost use Rattle.std.specs.Prelude.{◌≡◌};
 ghost use Rattle.client_session.specs.Calls.{start, deliver, end};
 ghost use Rattle.raw_session.specs.Raw.{session_of};

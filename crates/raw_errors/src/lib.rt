@@ -1,4 +1,7 @@
 // The error of a number, for programs in C and Rust. Every number has a meaning.
+
+#![tactic(auto)]
+
 ghost use Rattle.std.specs.Prelude.{◌≡◌};
 ghost use Rattle.raw_errors.specs.Errors.{error_of, later_error};
 

@@ -1,4 +1,7 @@
 // Numbers for what C has no type for, and back. Every number has a meaning.
+
+#![tactic(auto)]
+
 ghost use Rattle.std.specs.Prelude.{◌≡◌};
 ghost use Rattle.raw_numbers.specs.Numbers.{truth, bit, kind_of, kind_number, family_of, port_of};
 

@@ -1,4 +1,7 @@
 // Preparing for programs in C and Rust: the options, the port and the records as numbers and bytes.
+
+#![tactic(auto)]
+
 ghost use Rattle.std.specs.Prelude.{◌≡◌};
 ghost use Rattle.client_session.specs.Calls.{prepare5, prepare4};
 ghost use Rattle.raw_openings.specs.Given.{config_of, given5, given4, prepared_step};

@@ -1,4 +1,7 @@
 // The calls that move a proxy's end of numbers and arrays, each the library's on the end that they mean.
+
+#![tactic(auto)]
+
 ghost use Rattle.std.specs.Prelude.{◌≡◌};
 ghost use Rattle.proxy_spec.specs.End.{endpoint_of};
 ghost use Rattle.proxy_session.specs.Calls.{set_up, deliver, answer, end};

@@ -1,4 +1,7 @@
 // A lookup's answers as bytes: records of 17 bytes, one behind the other, each its kind's number and 16 bytes of address.
+
+#![tactic(auto)]
+
 ghost use Rattle.std.specs.Prelude.{◌≡◌};
 ghost use Rattle.lookup.specs.Chosen.{none_found, chosen_of};
 ghost use Rattle.raw_records.specs.Records.{records_in, serves_number, Placed};

@@ -1,4 +1,7 @@
 // The proxy's end as numbers and arrays, by value, for programs in C and Rust.
+
+#![tactic(auto)]
+
 ghost use Rattle.std.specs.Prelude.{◌≡◌};
 ghost use Rattle.raw_server.specs.Raw.{ports_of, awaited_of, stage_of, numbered, with_ports, password_number, asked_number, open_number, awaited_numbers, stage_numbers, server_of, raw_of, standing_of, served_of};
 

@@ -1,4 +1,7 @@
 // A session as numbers and arrays, by value, for programs in C and Rust.
+
+#![tactic(auto)]
+
 ghost use Rattle.std.specs.Prelude.{◌≡◌};
 ghost use Rattle.raw_session.specs.Raw.{stage_of, method_number, reply_number, stage_numbers, session_of, raw_of, outcome_of, step_of};
 

@@ -1,4 +1,7 @@
 // What is told of a session of numbers and arrays, each time by the library of the session that they mean; and of a piece.
+
+#![tactic(auto)]
+
 ghost use Rattle.std.specs.Prelude.{◌≡◌, ◌≤◌, length};
 ghost use Rattle.talk.specs.Tunnel.{rest};
 ghost use Rattle.client_session.specs.Session.{write_bound};

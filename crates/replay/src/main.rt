@@ -1,4 +1,7 @@
 // Runs the cases on standard input and writes a line for each (docs/CASES.md).
+
+#![tactic(auto)]
+
 mod lines;
 mod proxies;
 mod recordings;

@@ -1,4 +1,7 @@
 // 01, "The call: reading replies": the v5 and v4 replies, read from held bytes and a piece, and judged.
+
+#![tactic(auto)]
+
 pub mod unread;
 pub mod v4;
 pub mod v5;

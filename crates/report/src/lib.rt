@@ -1,4 +1,7 @@
 // Text that goes to a file through a lent buffer: numbers in decimal, bytes in lower-case hexadecimal, `-` for none.
+
+#![tactic(auto)]
+
 use address_format::numerals::hex_digit;
 use protocol::SocksError;
 

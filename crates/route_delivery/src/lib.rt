@@ -1,4 +1,7 @@
 // F-5: a delivery to the proxies of a route: what one leaves of a piece once it is open is handed to the next.
+
+#![tactic(auto)]
+
 ghost use Rattle.std.specs.Prelude.{◌≡◌, ◌+◌, ◌^◌, ◌<◌, ◌≤◌, length};
 ghost use Rattle.buffers.specs.write.Written.{Wrote};
 ghost use Rattle.client_stages.specs.due.Parts.{part};

@@ -12,7 +12,7 @@ loop-i-preserved c =
 pub overflow_add-at : goal.overflow_add-at
 overflow_add-at c =
     let h = next_line c.args.text.now c.loop-i.at c.loop-i.i c.args.index c.loop-i.invariant.1.1 c.loop-i-test.true c.requires c.line_end-at.result
-        c.line_end-at.ensures in
+    c.line_end-at.ensures in
     omega (arith, h.1.0)
 
 pub slice_bounds-result-count : goal.slice_bounds-result-count

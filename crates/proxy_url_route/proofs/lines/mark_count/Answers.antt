@@ -9,7 +9,7 @@ loop-i-preserved c =
     let h = c.loop-i-test.true in
     let v = c.loop-i.invariant.1 in
     elim c.if-text-i-eq-MARK.branch [
-        then-text-i-eq-MARK w ↦ count_mark s c.loop-i.i h c.loop-i.n c.if-text-i-eq-MARK.n w.n-is v.0 v.1 w.if-text-i-eq-MARK.true
+      | then-text-i-eq-MARK w ↦ count_mark s c.loop-i.i h c.loop-i.n c.if-text-i-eq-MARK.n w.n-is v.0 v.1 w.if-text-i-eq-MARK.true
       | else-text-i-eq-MARK w ↦ count_other s c.loop-i.i h c.loop-i.n c.if-text-i-eq-MARK.n w.n-is v.0 v.1 w.if-text-i-eq-MARK.false
     ]
 
