@@ -1,4 +1,7 @@
 // F-13: the load: what is drawn for a handshake, and how its replies are cut into pieces.
+
+#![tactic(auto)]
+
 ghost use Rattle.std.specs.Prelude.{◌≡◌, ◌≤◌, ◌<◌};
 ghost use Rattle.draws.specs.Draws.{draw_of, choice_of, piece_of};
 

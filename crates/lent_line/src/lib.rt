@@ -1,4 +1,7 @@
 // F-9 for a foreign interface: a proxy line read into numbers, and user and password into lent arrays.
+
+#![tactic(auto)]
+
 ghost use Rattle.std.specs.Prelude.{◌≡◌, length};
 ghost use Rattle.proxy_url.specs.Calls.{read_of};
 ghost use Rattle.lent_line.specs.Line.{version_number, raw_line, ReadsInto};
