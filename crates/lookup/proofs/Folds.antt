@@ -8,16 +8,16 @@ use lib.ListN.{length, get_or, take, drop, drop_of_length-le}
 use lib.Seq.{drop-cons, get_or-take, length-take-le}
 use Rattle.protocol.specs.declared.Record.{Record}
 use Rattle.lookup.specs.declared.Lookup.{Lookup}
-use Rattle.lookup.specs.Chosen.{no_record, step_of, chosen_of}
+use Rattle.lookup.specs.Chosen.{step_of, chosen_of}
 
 -- ---- among the first e records
 
-pub fold_step : (four : Bool) (ys : List Record) (e i : ℕ) (c : Lookup) → e ≤ length ys → i < e
-    → chosen_of four c (drop i (take e ys)) ≡ chosen_of four (step_of four c (get_or ys i no_record)) (drop (i + 1) (take e ys))
+pub fold_step : (four : Bool) (ys : List Record) (e i : ℕ) (c : Lookup) (d : Record) → e ≤ length ys → i < e
+    → chosen_of four c (drop i (take e ys)) ≡ chosen_of four (step_of four c (get_or ys i d)) (drop (i + 1) (take e ys))
 unfolding chosen_of
-fold_step four ys e i c l h =
+fold_step four ys e i c d l h =
     let k : i < length (take e ys) = rw (length-take-le e ys l) h in
-    rw (drop-cons (take e ys) i no_record k, add-one i, get_or-take e ys i no_record h)
+    rw (drop-cons (take e ys) i d k, add-one i, get_or-take e ys i d h)
 
 pub fold_end : (four : Bool) (ys : List Record) (e i : ℕ) (c : Lookup) → e ≤ length ys → e ≤ i → chosen_of four c (drop i (take e ys)) ≡ c
 unfolding chosen_of
