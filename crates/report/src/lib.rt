@@ -1,24 +1,39 @@
-// Text that goes to a file through a lent buffer: numbers in decimal, bytes in lower-case hexadecimal, `-` for none.
-
+// Text that goes to a stream through a lent buffer: numbers in decimal, bytes in lower-case hexadecimal, `-` for none.
 #![tactic(auto)]
 
 use address_format::numerals::hex_digit;
 use protocol::SocksError;
+use std::io::{Print, Stderr, Stdout};
 
-// The file, and how much of the buffer is still to be written to it.
+// Where text goes.
+#[derive(Clone, Copy)]
+pub enum Stream {
+    Output(Stdout),
+    Errors(Stderr),
+}
+
+// The stream, and how much of the buffer is still to be written to it.
 #[derive(Clone, Copy)]
 pub struct Writer {
-    pub file: i32,
+    pub file: Stream,
     pub at: usize,
 }
 
-pub fn new(file: i32) -> Writer {
+pub fn new(file: Stream) -> Writer {
     Writer { file, at: 0 }
+}
+
+// Writes all bytes. What can't be written is lost.
+fn write_all(file: Stream, bytes: &[u8]) {
+    let _ = match file {
+        Stream::Output(stdout) => stdout.write_all(bytes),
+        Stream::Errors(stderr) => stderr.write_all(bytes),
+    };
 }
 
 // Writes what is still to be written.
 pub fn finish(writer: Writer, text: &[u8]) {
-    io::write_all(writer.file, input::places::part(text, 0, writer.at));
+    write_all(writer.file, input::places::part(text, 0, writer.at));
 }
 
 // A place for a byte: a full buffer is written first.
@@ -27,7 +42,7 @@ fn room(writer: Writer, text: &[u8]) -> usize {
     if at < text.len() {
         return at;
     }
-    io::write_all(writer.file, text);
+    write_all(writer.file, text);
     0
 }
 
