@@ -1,14 +1,13 @@
 // 01, "Alongside": delivers standard input to a plain v5 session for 192.0.2.7, port 443, and says what it sent, how it ended and what was left.
-
 #![tactic(auto)]
 
 ghost use Rattle.std.specs.Prelude.{◌≡◌, ◌+◌, ◌%◌, ◌^◌, ◌≤◌, length};
 ghost use Rattle.tunnel.specs.Lines.{outcome_numbers};
 
-use libc::STDOUT_FILENO;
 use lookup::none_found;
 use protocol::{Outcome, Port, SocksConfig};
 use socks::{Delivered, Prepared, Session, Started, errors, v5};
+use std::io::{Print, Stdin, Stdout};
 
 const PIECE: usize = 513;
 
@@ -17,18 +16,23 @@ const OUTPUT: usize = 1024;
 
 const TEXT: usize = 2048;
 
-fn print_hex(s: &[u8])
+// Writes all bytes. What can't be written is lost.
+fn write_all(stdout: Stdout, bytes: &[u8]) {
+    let _ = stdout.write_all(bytes);
+}
+
+fn print_hex(stdout: Stdout, s: &[u8])
     requires { length s.now ≤ 1024 }
 {
     let mut text = [0u8; TEXT];
     let n = address_format::numerals::put_hex(s, &mut text, 0);
-    io::write_all(STDOUT_FILENO, &text[..n]);
+    write_all(stdout, &text[..n]);
 }
 
-fn print_sent(out: &[u8], n: usize)
+fn print_sent(stdout: Stdout, out: &[u8], n: usize)
     requires { (n ≤ length out.now) × (length out.now ≤ 1024) }
 {
-    print_hex(&out[..n]);
+    print_hex(stdout, &out[..n]);
 }
 
 // An outcome's number, 0 if it is open, and its status.
@@ -105,12 +109,12 @@ struct Course {
     rest: u64,
 }
 
-fn start(out: &mut [u8]) -> Course
+fn start(stdout: Stdout, out: &mut [u8]) -> Course
     requires { length out.old ≤ 1024 }
 {
     let started = begin(out);
-    io::write_all(STDOUT_FILENO, b"sent ");
-    print_sent(out, started.sent);
+    write_all(stdout, b"sent ");
+    print_sent(stdout, out, started.sent);
     let session = started.session;
     Course {
         session,
@@ -120,7 +124,7 @@ fn start(out: &mut [u8]) -> Course
 }
 
 // A piece goes to the session if that waits, and is only counted otherwise. Each byte is counted once.
-fn take_piece(course: Course, piece: &[u8], out: &mut [u8]) -> Course
+fn take_piece(stdout: Stdout, course: Course, piece: &[u8], out: &mut [u8]) -> Course
     requires { length out.old ≤ 1024 }
     ensures { (result.used + result.rest) % 2 ^ 64 ≡ (course.used + course.rest + length piece.now) % 2 ^ 64 }
 {
@@ -134,7 +138,7 @@ fn take_piece(course: Course, piece: &[u8], out: &mut [u8]) -> Course
         };
     }
     let delivered = pass(before, piece, out);
-    print_sent(out, delivered.sent);
+    print_sent(stdout, out, delivered.sent);
     let used = delivered.used;
     let session = delivered.session;
     Course {
@@ -144,18 +148,16 @@ fn take_piece(course: Course, piece: &[u8], out: &mut [u8]) -> Course
     }
 }
 
-fn run(piece: &mut [u8], out: &mut [u8]) -> Course
+fn run(stdin: Stdin, stdout: Stdout, piece: &mut [u8], out: &mut [u8]) -> Course
     requires { length out.old ≤ 1024 }
 {
-    let mut course = start(out);
-    let mut turns = u64::MAX;
-    while turns > 0 {
-        let n = input::read_piece(piece);
+    let mut course = start(stdout, out);
+    for _ in 0..u64::MAX {
+        let n = input::read_piece(stdin, piece);
         if n == 0 {
             break;
         }
-        course = take_piece(course, &piece[..n], out);
-        turns -= 1;
+        course = take_piece(stdout, course, &piece[..n], out);
     }
     course
 }
@@ -170,22 +172,23 @@ fn finish(session: Session) -> Outcome {
     last.outcome()
 }
 
-fn print(name: &[u8], value: u64) {
-    io::write_all(STDOUT_FILENO, name);
-    io::print_decimal(STDOUT_FILENO, value);
+fn print(stdout: Stdout, name: &[u8], value: u64) {
+    write_all(stdout, name);
+    let _ = stdout.print(value);
 }
 
-fn print_end(course: Course) {
+fn print_end(stdout: Stdout, course: Course) {
     let numbers = numbers_of(finish(course.session));
-    print(b"\nend ", numbers.number as u64);
-    print(b" ", numbers.status as u64);
-    print(b" used ", course.used);
-    print(b"\nrest ", course.rest);
-    io::write_all(STDOUT_FILENO, b"\n");
+    print(stdout, b"\nend ", numbers.number as u64);
+    print(stdout, b" ", numbers.status as u64);
+    print(stdout, b" used ", course.used);
+    print(stdout, b"\nrest ", course.rest);
+    write_all(stdout, b"\n");
 }
 
-fn main() {
+fn main(rt: HostRuntime) {
+    let stdout = rt.stdout();
     let mut piece = [0u8; PIECE];
     let mut out = [0u8; OUTPUT];
-    print_end(run(&mut piece, &mut out));
+    print_end(stdout, run(rt.stdin(), stdout, &mut piece, &mut out));
 }
