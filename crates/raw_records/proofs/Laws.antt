@@ -45,12 +45,12 @@ chosen_first four n address rs = go four (eqb n 1) (eqb n 4)
         → chosen_of four none_found (cond (one || six) (record { family = cond six Six Four; address = address } ∷ []) [] ++ rs)
         ≡ cond (cond six (not four) one) (taken (record { family = cond six Six Four; address = address })) (chosen_of four none_found rs)
     go true true true = refl
-    go true true false = stays _ _ rs
+    go true true false = stays true (record { family = Four; address = address }) rs
     go true false true = refl
     go true false false = refl
-    go false true true = stays _ _ rs
-    go false true false = stays _ _ rs
-    go false false true = stays _ _ rs
+    go false true true = stays false (record { family = Six; address = address }) rs
+    go false true false = stays false (record { family = Four; address = address }) rs
+    go false false true = stays false (record { family = Six; address = address }) rs
     go false false false = refl
 
 -- ---- from a place on
