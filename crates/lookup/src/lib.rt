@@ -1,4 +1,7 @@
 // 01, "Lookup": a lookup's answers: a lent list of records, and the one of them that an opening takes.
+
+#![tactic(auto)]
+
 ghost use Rattle.std.specs.Prelude.{◌≡◌, take, not, ◌&&◌};
 ghost use Rattle.lookup.specs.Chosen.{serves, none_found, step_of, chosen_of};
 
