@@ -1,5 +1,4 @@
 // Runs the cases on standard input and writes a line for each (docs/CASES.md).
-
 #![tactic(auto)]
 
 mod lines;
@@ -13,8 +12,8 @@ mod texts;
 
 use input::Input;
 use input::places::{byte_at, part, past, text_at, text_end};
-use libc::STDOUT_FILENO;
-use report::{Writer, put_byte, put_bytes};
+use report::{Stream, Writer, put_byte, put_bytes};
+use std::io::{Stdin, Stdout};
 use tally::KEPT;
 
 // More than the largest frame.
@@ -68,9 +67,9 @@ struct Stand {
 }
 
 // The next frame, if there is one.
-fn turn(stand: Stand, buffer: &mut [u8], kept: &mut [u8], text: &mut [u8]) -> Stand {
+fn turn(stdin: Stdin, stand: Stand, buffer: &mut [u8], kept: &mut [u8], text: &mut [u8]) -> Stand {
     let writer = stand.writer;
-    let input = input::want_text(stand.input, buffer);
+    let input = input::want_text(stdin, stand.input, buffer);
     let unread = part(buffer, input.at, input.end);
     if unread.len() == 0 {
         return Stand {
@@ -99,24 +98,24 @@ fn turn(stand: Stand, buffer: &mut [u8], kept: &mut [u8], text: &mut [u8]) -> St
     }
 }
 
-fn run(buffer: &mut [u8], kept: &mut [u8], text: &mut [u8]) {
+fn run(stdin: Stdin, stdout: Stdout, buffer: &mut [u8], kept: &mut [u8], text: &mut [u8]) {
     let mut stand = Stand {
         input: input::new(),
-        writer: report::new(STDOUT_FILENO),
+        writer: report::new(Stream::Output(stdout)),
         more: true,
     };
     for turns in 0..u64::MAX {
         if !stand.more {
             break;
         }
-        stand = turn(stand, buffer, kept, text);
+        stand = turn(stdin, stand, buffer, kept, text);
     }
     report::finish(stand.writer, text);
 }
 
-fn main() {
+fn main(rt: HostRuntime) {
     let mut buffer = [0u8; INPUT];
     let mut kept = [0u8; KEPT];
     let mut text = [0u8; TEXT];
-    run(&mut buffer, &mut kept, &mut text);
+    run(rt.stdin(), rt.stdout(), &mut buffer, &mut kept, &mut text);
 }
