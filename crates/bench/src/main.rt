@@ -1,6 +1,5 @@
 // F-3: the proxy's end for a real client, on standard input and output: `bench FILE [USER PASSWORD]`. It serves one handshake and answers success;
 // the start of FILE goes out with its last reply, in one write. What was asked for and how it ended is said on standard error.
-
 #![tactic(auto)]
 
 ghost use Rattle.std.specs.Prelude.{◌≡◌, ◌-◌, ◌≤◌, length, take};
@@ -8,14 +7,21 @@ ghost use Rattle.io.specs.Counts.{IsPrefixLen};
 ghost use Rattle.bench.specs.Opens.{success_at, Opens};
 
 use input::places::part;
-use libc::{STDERR_FILENO, STDOUT_FILENO};
 use protocol::{AddressKind, Family, Record};
 use proxy::{Answered, Outcome, Server, SetUp, Stage};
 use proxy_decisions::destination::Target;
 use proxy_replies::stages::success;
-use report::{State, Writer, put_byte, put_bytes, put_field, put_number, put_state};
+use report::{State, Stream, Writer, put_byte, put_bytes, put_field, put_number, put_state};
+use std::env::{Env, FillError};
+use std::fs::File;
+use std::io::{Print, Stderr, Stdin, Stdout};
 
 const PIECE: usize = 513;
+
+// Writes all bytes, and says whether that was done.
+fn write_all(stdout: Stdout, bytes: &[u8]) -> bool {
+    stdout.write_all(bytes).is_ok()
+}
 
 // An end, and how many bytes at the output's start are still to be written.
 #[derive(Clone, Copy)]
@@ -77,10 +83,10 @@ fn pass(server: Server, piece: &[u8], out: &mut [u8]) -> Turn
 }
 
 // Reads once.
-fn receive(server: Server, piece: &mut [u8], out: &mut [u8]) -> Turn
+fn receive(stdin: Stdin, server: Server, piece: &mut [u8], out: &mut [u8]) -> Turn
     ensures { result.sent ≤ length out.new }
 {
-    let n = input::read_piece(piece);
+    let n = input::read_piece(stdin, piece);
     if n == 0 {
         return end(server);
     }
@@ -88,16 +94,17 @@ fn receive(server: Server, piece: &mut [u8], out: &mut [u8]) -> Turn
 }
 
 // All that the client says. What is said to it is written ahead of the next read, and at last left to the caller.
-fn run(server: Server, piece: &mut [u8], out: &mut [u8]) -> Turn
+fn run(stdin: Stdin, stdout: Stdout, server: Server, piece: &mut [u8], out: &mut [u8]) -> Turn
     ensures { result.sent ≤ length out.new }
 {
     let mut turn = Turn { server, sent: 0 };
-    let mut turns = u64::MAX;
-    while turns > 0 && waits(turn.server) {
+    for _ in 0..u64::MAX {
+        if !waits(turn.server) {
+            break;
+        }
         let n = turn.sent;
-        io::write_all(STDOUT_FILENO, &out[..n]);
-        turn = receive(turn.server, piece, out);
-        turns -= 1;
+        write_all(stdout, &out[..n]);
+        turn = receive(stdin, turn.server, piece, out);
     }
     turn
 }
@@ -133,48 +140,50 @@ fn answer(server: Server, out: &mut [u8]) -> Answered
 }
 
 // Reads a file's next bytes behind a place, and answers the place behind them.
-fn fill(fd: i32, out: &mut [u8], at: usize) -> usize
+fn fill(file: &mut File, out: &mut [u8], at: usize) -> usize
     requires { at ≤ length out.old }
     ensures prefix_len { IsPrefixLen result out.new }
     ensures out_unchanged { take at out.new ≡ take at out.old }
 {
-    at + io::read_full(fd, &mut out[at..])
+    at + input::read_full(file, &mut out[at..])
 }
 
 // The reply goes behind what is still to be written, the file's start behind the reply, and all of it in one write.
-fn open(turn: Turn, fd: i32, out: &mut [u8]) -> Server
+fn open(stdout: Stdout, turn: Turn, file: &mut File, out: &mut [u8]) -> Server
     requires { turn.sent ≤ length out.old }
     ensures { Opens turn.server (length out.old - turn.sent) result }
 {
     let at = turn.sent;
     let answered = answer(turn.server, &mut out[at..]);
-    let end = fill(fd, out, at + answered.sent);
-    io::write_all(STDOUT_FILENO, &out[..end]);
+    let end = fill(file, out, at + answered.sent);
+    write_all(stdout, &out[..end]);
     answered.server
 }
 
 // Passes on what a read gives, and answers whether to go on.
-fn copy_some(fd: i32, out: &mut [u8]) -> bool {
-    let n = fill(fd, out, 0);
+fn copy_some(stdout: Stdout, file: &mut File, out: &mut [u8]) -> bool {
+    let n = fill(file, out, 0);
     if n == 0 {
         return false;
     }
-    io::write_all(STDOUT_FILENO, &out[..n])
+    write_all(stdout, &out[..n])
 }
 
 // What is left of the file.
-fn copy_rest(fd: i32, out: &mut [u8]) {
-    let mut turns = u64::MAX;
-    while turns > 0 && copy_some(fd, out) {
-        turns -= 1;
+fn copy_rest(stdout: Stdout, file: &mut File, out: &mut [u8]) {
+    for _ in 0..u64::MAX {
+        if !copy_some(stdout, file, out) {
+            break;
+        }
     }
 }
 
 // Hears the client to its end: to leave with bytes of it unread would reset the connection, and cut the stream.
-fn hear(piece: &mut [u8]) {
-    let mut turns = u64::MAX;
-    while turns > 0 && input::read_piece(piece) > 0 {
-        turns -= 1;
+fn hear(stdin: Stdin, piece: &mut [u8]) {
+    for _ in 0..u64::MAX {
+        if input::read_piece(stdin, piece) == 0 {
+            break;
+        }
     }
 }
 
@@ -195,83 +204,102 @@ fn put_asked(start: Writer, text: &mut [u8], bytes: [u8; 1014], n: usize, port: 
 }
 
 // A line on standard error.
-fn say_destination(target: Target) {
+fn say_destination(stderr: Stderr, target: Target) {
     let kind = target.kind;
     let bytes = target.bytes;
     let mut text = io::buffer();
-    let writer = put_kind(report::new(STDERR_FILENO), &mut text, kind);
+    let writer = put_kind(report::new(Stream::Errors(stderr)), &mut text, kind);
     let end = put_asked(writer, &mut text, bytes, target.len, target.port);
     report::finish(end, &text);
 }
 
 // The outcome's number and its status, as a line.
-fn say_outcome(server: Server) {
+fn say_outcome(stderr: Stderr, server: Server) {
     let mut text = io::buffer();
-    let writer = put_bytes(report::new(STDERR_FILENO), &mut text, b"outcome ");
+    let writer = put_bytes(report::new(Stream::Errors(stderr)), &mut text, b"outcome ");
     let next = put_state(writer, &mut text, state_of(server));
     let end = put_byte(next, &mut text, b'\n');
     report::finish(end, &text);
 }
 
-fn serve(server: Server, fd: i32, piece: &mut [u8], out: &mut [u8]) {
-    let turn = run(server, piece, out);
+fn serve(rt: HostRuntime, server: Server, file: &mut File, piece: &mut [u8], out: &mut [u8]) {
+    let stdin = rt.stdin();
+    let stdout = rt.stdout();
+    let stderr = rt.stderr();
+    let turn = run(stdin, stdout, server, piece, out);
     let asked = turn.server;
     if !is_asked(asked) {
         let n = turn.sent;
-        io::write_all(STDOUT_FILENO, &out[..n]);
-        say_outcome(asked);
+        write_all(stdout, &out[..n]);
+        say_outcome(stderr, asked);
         return;
     }
-    say_destination(asked.destination());
-    say_outcome(open(turn, fd, out));
-    copy_rest(fd, out);
-    hear(piece);
+    say_destination(stderr, asked.destination());
+    say_outcome(stderr, open(stdout, turn, file, out));
+    copy_rest(stdout, file, out);
+    hear(stdin, piece);
 }
 
 // The start of an argument, which fills the text if it is longer.
-fn argument(i: usize, text: &mut [u8]) -> usize
+fn argument(rt: &impl Env, i: usize, text: &mut [u8]) -> usize
     ensures { IsPrefixLen result text.new }
 {
-    let n = os::arg(i, text);
-    if os::errno() == libc::ENAMETOOLONG {
-        return text.len();
+    match rt.arg(i, text) {
+        Ok(n) => n,
+        Err(FillError::TooLong) => text.len(),
+        Err(FillError::NotPresent) => 0,
     }
-    n
+}
+
+// How many arguments there are, the program's name among them, up to 5.
+fn argument_count(rt: &impl Env) -> usize {
+    for i in 0..5 {
+        let mut text = [0u8; 1];
+        if let Err(FillError::NotPresent) = rt.arg(i, &mut text) {
+            return i;
+        }
+    }
+    5
 }
 
 // With credentials if they are among the arguments. They fit, or are too long for the end too.
-fn set_up(authenticates: bool) -> SetUp {
+fn set_up(rt: &impl Env, authenticates: bool) -> SetUp {
     let mut user = [0u8; 256];
     let mut password = [0u8; 256];
-    let n = argument(2, &mut user);
-    let m = argument(3, &mut password);
+    let n = argument(rt, 2, &mut user);
+    let m = argument(rt, 3, &mut password);
     proxy::set_up(authenticates, &user[..n], &password[..m])
 }
 
-fn open_file() -> i32 {
+// The file whose name is the first argument. If it can't be opened, that is said on standard error.
+fn open_file(rt: HostRuntime) -> Option<File> {
     let mut path = io::buffer();
-    let n = argument(1, &mut path);
-    let fd = os::open_read(&path[..n]);
-    if fd < 0 {
-        os::fail(&path[..n]);
+    let n = argument(&rt, 1, &mut path);
+    let Ok(name) = std::str::from_utf8(&path[..n]) else {
+        let _ = rt.eprintln("the file's name is not UTF-8");
+        return None;
+    };
+    match File::open(&rt, name) {
+        Ok(file) => Some(file),
+        Err(error) => {
+            let _ = eprintln!(rt; "{name}: {error}");
+            None
+        }
     }
-    fd
 }
 
-fn main() {
-    let count = os::arg_count();
+fn main(rt: HostRuntime) {
+    let count = argument_count(&rt);
     if !(count == 2 || count == 4) {
-        io::write_all(STDERR_FILENO, b"usage: bench FILE [USER PASSWORD]\n");
+        let _ = rt.eprintln("usage: bench FILE [USER PASSWORD]");
         return;
     }
-    let fd = open_file();
-    if fd < 0 {
+    let Some(mut file) = open_file(rt) else {
         return;
-    }
-    let set = set_up(count == 4);
+    };
+    let set = set_up(&rt, count == 4);
     let server = set.server;
     let mut piece = [0u8; PIECE];
     let mut out = io::large_buffer();
-    serve(server, fd, &mut piece, &mut out);
-    libc::close(fd);
+    serve(rt, server, &mut file, &mut piece, &mut out);
 }
