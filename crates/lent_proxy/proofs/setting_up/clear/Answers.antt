@@ -1,7 +1,6 @@
-use Prim.Native.Nat.{◌-◌}
 use native.Mathlib.Omega.{arith}
 use mathlib.Core.Path.{refl, ◌∙◌}
-use lib.ListN.{length, length-set}
+use lib.ListN.{length-set}
 use Rattle.lent_proxy.proofs.Setting.{cleared_on, cleared_all}
 use Rattle.lent_proxy.proofs.setting_up.clear.Goals as goal
 

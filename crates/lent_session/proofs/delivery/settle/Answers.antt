@@ -1,4 +1,4 @@
-use Rattle.std.proofs.Common.{◌<◌, sym, refl, ◌∙◌, rules}
+use Rattle.std.proofs.Common.{sym, refl, ◌∙◌, rules}
 use Rattle.lent_session.specs.delivery.Changes.{at, trying, accepted}
 use Rattle.lent_session.proofs.Writing.{settled_as, waits_not_open, failed_not_open}
 use Rattle.lent_session.proofs.delivery.settle.Goals as goal

@@ -1,4 +1,4 @@
-use Rattle.std.proofs.Common.{ℕ, ◌-◌, List, set, refl, ap, ◌∙◌, arith}
+use Rattle.std.proofs.Common.{ℕ, List, set, refl, ap, ◌∙◌, arith}
 use borrow.Author.Fill.{fill_none, fill_more}
 use Rattle.lent_session.proofs.preparing.Laws.{filled, filled_long}
 use Rattle.lent_session.proofs.preparing.clear.Goals as goal
