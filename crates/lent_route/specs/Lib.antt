@@ -2,4 +2,5 @@ pub mod State
 pub mod Calls
 pub mod Together
 pub mod preparing
+pub mod relay
 pub mod delivery

@@ -8,6 +8,7 @@ ghost use Rattle.lent_route.specs.State.{phase_at, route_at};
 ghost use Rattle.lent_route.specs.Calls.{Leaves, Delivers};
 ghost use Rattle.lent_route.specs.delivery.Settling.{spot_in, Short, Settles};
 
+use crate::relay::relay;
 use crate::state::{BEHIND_AT, BYTES_AT, COUNT_AT, hops_at, put_spoken};
 use buffers::write::{copy, least};
 use client_stages::due::{Lengths, Stage};
@@ -16,7 +17,7 @@ use lent_numbers::told::{RawStep, outcome_of};
 use lent_session::delivery::{append, is_held, refused};
 use lent_session::state::{HELD_AT, SESSION, awaited, bound_at, is_started, lengths_at, reply_of};
 use protocol::{HOLD, PROXIES, REQUESTS, SocksError};
-use route_delivery::{Relayed, Spot, relay};
+use route_delivery::{Relayed, Spot};
 use route_session::calls::last_of;
 
 // Whether a piece decides nothing, and is only to be held. In forged bytes the number behind may be too large, and is then to be written.

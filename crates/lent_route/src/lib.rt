@@ -4,5 +4,6 @@
 
 pub mod delivery;
 pub mod preparing;
+pub mod relay;
 pub mod state;
 pub mod telling;

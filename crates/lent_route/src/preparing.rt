@@ -218,7 +218,7 @@ fn open_first(s: &mut [u8], count: usize, out: &mut [u8]) -> RawStep
 {
     let hops = hops_at(s, count - 1);
     let from = BYTES_AT + REQUESTS * (8 - count);
-    let spot = route_delivery::begin(
+    let spot = crate::relay::begin(
         hops,
         Spot {
             behind: count,

@@ -1,5 +1,5 @@
 // F-5: what is told of a route in lent bytes, each time what is told of the route that they mean. And how it is wiped.
-ghost use Rattle.std.specs.Prelude.{◌≡◌, ◌≤◌, length};
+ghost use Rattle.std.specs.Prelude.{◌≡◌, ◌≢◌, ◌≤◌, length};
 ghost use Rattle.client_session.specs.Session.{write_bound};
 ghost use Rattle.lent_numbers.specs.told.Told.{outcome_of};
 ghost use Rattle.lent_session.specs.Calls.{address_of, Tells};
@@ -36,7 +36,7 @@ pub fn bound(s: &[u8]) -> RawAddress
 pub fn bound_text(s: &[u8], text: &mut [u8]) -> RawText
     requires { length s.now ≡ 8538 }
     ensures tells { Tells (write_bound (session_in (route_at s.now)) text.old) result text.new }
-    ensures fact { 261 ≤ length text.old → result.answer ≡ 18 → ⊥ }
+    ensures enough { 261 ≤ length text.old → result.answer ≢ 18 }
 {
     lent_session::telling::bound_text(&s[..SESSION], text)
 }

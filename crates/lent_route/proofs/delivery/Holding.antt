@@ -33,7 +33,7 @@ use Rattle.route_delivery.specs.declared.Spot.{Spot}
 use Rattle.route_session.specs.declared.calls.Route.{Route}
 use Rattle.route_delivery.specs.Relay as relay
 use Rattle.route_delivery.specs.Relay.{hop_at, relayed, RelayResult}
-use Rattle.route_delivery.proofs.Laws.{hands, stops_here}
+use Rattle.lent_route.proofs.relay.Laws.{hands, stops_here}
 use Rattle.route_session.specs.calls.Calls.{deliver}
 use Rattle.lent_route.specs.State.{count_at, route_at, spoken_at}
 use Rattle.lent_route.specs.Calls.{Leaves}

@@ -32,7 +32,7 @@ use Rattle.route_delivery.specs.declared.Hop.{Hop}
 use Rattle.route_delivery.specs.declared.Spot.{Spot}
 use Rattle.route_delivery.specs.declared.Relayed.{Relayed}
 use Rattle.route_delivery.specs.Relay as relay
-use Rattle.route_delivery.specs.Relay.{Relay, relayed, Relayable, RelayResult}
+use Rattle.route_delivery.specs.Relay.{Relay, relayed, RelayResult}
 use Rattle.route_session.specs.declared.calls.Route.{Route}
 use Rattle.route_session.specs.declared.calls.Delivered.{Delivered}
 use Rattle.route_session.specs.calls.Calls.{Call, refusal, last_in, room_in, is_over, outcome, deliver, DeliverResult}
@@ -40,6 +40,7 @@ use Rattle.route_session.proofs.calls.Laws.{relay_asks, takes_as, delivers_takes
 use Rattle.talk.specs.Talk as talk
 use Rattle.lent_route.specs.State.{Phase, preparing, opened, over, phase_at, hops_in, bytes_in, count_at, route_at, spoken_at}
 use Rattle.lent_route.specs.Calls.{step_by, onward, left_by, Leaves, Untimely, Delivers}
+use Rattle.lent_route.specs.relay.Lending.{Relayable}
 use Rattle.lent_route.specs.delivery.Settling.{spot_in, lengths_by, Settles}
 use Rattle.lent_route.proofs.Writing.{keeping}
 use Rattle.lent_route.proofs.Prefix.{prefix, first_long}
@@ -54,6 +55,10 @@ module _ (s : List ℕ) (y : Bytes s) (l : length s ≡ 8538) where
 
 pub short_behind : {a b x y : ℕ} → a ≡ x → b ≡ y → a < b → x < y
 short_behind p q h = omega (arith, p, q, h)
+
+-- what a piece asks of a route whose requests are all there
+of_all : {hops : List Hop} {p : Spot} {bytes hold : List ℕ} {out : ℕ} → relay.Relayable hops p bytes hold out → Relayable hops p bytes hold out
+of_all y = let k = y.few in record { few = y.few; small = y.small; whole = rw y.whole (omega (arith, k)); holds = y.holds; roomy = y.roomy }
 
 -- ---- a route that awaits a reply
 
@@ -85,7 +90,7 @@ module _ (s piece out : List ℕ) (y : Bytes s) (l : length s ≡ 8538) (room : 
   pub asks : Relayable r.hops spot r.bytes r.hold (length out)
   asks =
       subst (λ (g : Stage). Relayable r.hops (record { behind = spot.behind; stage = g; held = r.held; bound = r.bound; attempts = r.attempts; sent = 0 }) r.bytes r.hold (length out)) w
-      (relay_asks r piece out refl f.hold bytes_long f.attempts (omega (arith, room)))
+      (of_all (relay_asks r piece out refl f.hold bytes_long f.attempts (omega (arith, room))))
 
   -- what the relay asks, lent the requests of the proxies in use
   pub lent_asks : {bytes : List ℕ} → bytes ≡ drop from s → Relayable r.hops spot bytes r.hold (length out)
