@@ -37,10 +37,10 @@ def install(packages):
 def archive():
     """the directory that holds libgitaymba.a"""
     given = os.environ.get("GITAYMBA_LIB")
-    built = ROOT / "target/staticlib/libgitaymba.a"
+    built = ROOT / "crates/gitaymba/out/libgitaymba.a"
     if not given and not built.exists():
-        print("embed/proxies: rt staticlib gitaymba", flush=True)
-        run("rt", "staticlib", "gitaymba", cwd=ROOT)
+        print("embed/proxies: rt lib in crates/gitaymba", flush=True)
+        run("rt", "lib", cwd=ROOT / "crates/gitaymba")
     lib = MADE / "lib"
     lib.mkdir(parents=True, exist_ok=True)
     shutil.copy(given or built, lib / "libgitaymba.a")
@@ -67,8 +67,8 @@ def original():
     made = ROOT / "target/compare"
     tree = MADE / "tree"
     shutil.rmtree(tree, ignore_errors=True)
-    shutil.copytree(made / "tree", tree, symlinks=True)
-    (tree / "original.rs").symlink_to(HERE / "original.rs")
+    shutil.copytree(made / "tree", tree)
+    shutil.copyfile(HERE / "original.rs", tree / "original.rs")
     # as compare/oracle/build does
     flags = ["--edition", "2024", "--cfg", 'feature="client-legacy"', "--check-cfg", "cfg(feature, values(any()))", "-C", "opt-level=3"]
     flags += [word for name in "bytes http tower_service pin_project_lite".split() for word in ("--extern", name)]
