@@ -328,8 +328,8 @@ Texts s buffer =
 texts : (s buffer : List ℕ) → Texts s buffer
 texts s buffer = go (sessions.any_in_turn (session_at s))
   where
-    told : (first next : ℕ) → InTurn first next (session_at s) → Texts s buffer
-    told first next t = (same_conditions (open_number (session.outcome (session_at s))) (t.text_number buffer), t.text_behind buffer)
+    told : (room next : ℕ) → InTurn room next (session_at s) → Texts s buffer
+    told room next t = (same_conditions (open_number (session.outcome (session_at s))) (t.text_number buffer), t.text_behind buffer)
 
     go : InTurn 778 778 (session_at s) ⊎ InTurn 1024 262 (session_at s) → Texts s buffer
     go (inl t) = told 778 778 t
