@@ -102,7 +102,7 @@ pub extern "C" fn gitaymba_bound(session: RawSession) -> RawAddress
 #[unsafe(no_mangle)]
 pub extern "C" fn gitaymba_bound_text(session: RawSession, text: &mut [u8; 261]) -> RawText
     ensures tells { Tells (write_bound (session_of session) text.old) result text.new }
-    ensures fact { result.answer ≡ 18 → ⊥ }
+    ensures never_short { result.answer ≡ 18 → ⊥ }
 {
     raw_told::bound_text(session, text)
 }

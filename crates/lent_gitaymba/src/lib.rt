@@ -117,7 +117,7 @@ pub extern "C" fn gitaymba_bound(session: &[u8; 1306]) -> RawAddress
 #[unsafe(no_mangle)]
 pub extern "C" fn gitaymba_bound_text(session: &[u8; 1306], text: &mut [u8; 261]) -> RawText
     ensures tells { Tells (write_bound (session_at session.now) text.old) result text.new }
-    ensures fact { result.answer ≡ 18 → ⊥ }
+    ensures never_short { result.answer ≡ 18 → ⊥ }
 {
     lent_session::telling::bound_text(session, text)
 }

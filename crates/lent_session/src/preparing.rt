@@ -75,7 +75,7 @@ fn put_stage(s: &mut [u8], stage: Stage, optimistic: bool)
 fn keep(s: &mut [u8], begun: Begun) -> u8
     requires { length s.old ≡ 1306 }
     ensures value { result ≡ answer_number begun.answer }
-    ensures by_index { (bytes : List ℕ) → s.old ≡ replicate 282 0 ++ bytes → s.new ≡ state_of (prepared_with begun bytes).session }
+    ensures s_after { (bytes : List ℕ) → s.old ≡ replicate 282 0 ++ bytes → s.new ≡ state_of (prepared_with begun bytes).session }
 {
     let stage = begun.stage;
     let answer = begun.answer;

@@ -108,7 +108,7 @@ pub fn bound(s: &[u8]) -> RawAddress
 pub fn bound_text(s: &[u8], text: &mut [u8]) -> RawText
     requires { length s.now ≡ 1306 }
     ensures tells { Tells (write_bound (session_at s.now) text.old) result text.new }
-    ensures answer_nonzero { 261 ≤ length text.old → result.answer ≢ 18 }
+    ensures enough { 261 ≤ length text.old → result.answer ≢ 18 }
 {
     if stage_at(s) != 7 {
         return RawText {

@@ -52,7 +52,7 @@ pub fn bound(session: RawSession) -> RawAddress
 
 pub fn bound_text(session: RawSession, text: &mut [u8]) -> RawText
     ensures tells { Tells (write_bound (session_of session) text.old) result text.new }
-    ensures fact { 261 ≤ length text.old → result.answer ≡ 18 → ⊥ }
+    ensures enough { 261 ≤ length text.old → result.answer ≡ 18 → ⊥ }
 {
     let before = session_of(session);
     let written = before.bound_text(text);

@@ -23,4 +23,4 @@ returns c =
     let same : length bytes ≡ length (take (length s - 282) (drop 282 s)) = search rules in
     let long : length bytes ≡ 1024 = same ∙ ap length (requests_blank s c.clear.ensures c.requires) ∙ length-replicate {A = ℕ} 1024 0 in
     prepares4 c.begin-begun.result bytes long a.host.now a.port a.records.now a.local_dns c.found.ensures c.truth.ensures c.port_of.ensures
-    (opening.prepares4 c.truth.result a.host.now c.read_host-read.result c.port_of.result c.found.result c.read_host-read.ensures refl c.begin-begun.ensures) c.keep.ensures.value (c.keep.ensures.by_index bytes (requests_put c.clear.new.s c.clear.ensures c.requires bytes))
+    (opening.prepares4 c.truth.result a.host.now c.read_host-read.result c.port_of.result c.found.result c.read_host-read.ensures refl c.begin-begun.ensures) c.keep.ensures.value (c.keep.ensures.s_after bytes (requests_put c.clear.new.s c.clear.ensures c.requires bytes))
