@@ -12,8 +12,7 @@ use Rattle.protocol.proofs.Bytes.{bytes_left, bytes_right, bytes_part}
 use Rattle.protocol.proofs.Limits.{number_is}
 use Rattle.protocol.proofs.Sequences.{open_one, settled_same}
 use Rattle.client_session.specs.declared.Prepared.{Prepared}
-use Rattle.client_session.specs.Session.{outcome}
-use Rattle.client_session.specs.Calls.{prepared_by, prepare5, prepare4, start}
+use Rattle.client_session.specs.Calls.{prepare5, prepare4, start}
 use Rattle.socks.specs.Demand3.{joined_of, Tunnelled}
 use Rattle.socks.proofs.Openings.{demand3_v5, demand3_v4, asking_v5, asking_v4}
 use Rattle.socks.proofs.Refusals.{preparing5, preparing4}

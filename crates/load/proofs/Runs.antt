@@ -1,7 +1,6 @@
 -- F-13: handshakes run by the session's calls, piece by piece and one after the other.
 use Rattle.std.proofs.Common.{◌≡◌, ℕ, zero, suc, ◌+◌, ◌-◌, ◌<◌, ◌≤◌, min, Bool, true, false, cond, leb, List, [], ◌∷◌, length, take, drop, replicate, sym, refl, ap, ◌∙◌, subst, arith, length-drop, drop-drop, ne_eqb, leb-false, leb-true}
 use mathlib.Core.Option.{some}
-use lib.ListN.{length-replicate}
 use Rattle.client_session.specs.declared.Session.{Session}
 use Rattle.client_session.specs.declared.Started.{Started}
 use Rattle.client_session.specs.declared.Delivered.{Delivered}
@@ -16,17 +15,7 @@ use Rattle.draws.specs.declared.Piece.{Piece}
 use Rattle.draws.specs.Draws.{choice_of, piece_of}
 use Rattle.load.specs.declared.Tally.{Tally}
 use Rattle.load.specs.Tally.{Counts, no_counts, with_sent, counts_of, tally_of, added, settled}
-use Rattle.load.specs.Runs.{Ran, fed_with, prepared_by, ran_over, ran_all, Pieces, One, Fed, RanOne, RanOn, RanLoad, all_replies, kind_by}
-
--- a piece leaves less
-pub less_left : (n at len : ℕ) → at < n → 0 < len → n - (at + len) < n - at
-less_left n at len h k = omega arith
-
-pub less_rest : (left len : ℕ) → 0 < left → 0 < len → left - len < left
-less_rest left len h k = omega arith
-
-pub some_left : (n at : ℕ) → at < n → 0 < n - at
-some_left n at h = omega arith
+use Rattle.load.specs.Runs.{Ran, fed_with, prepared_by, ran_over, ran_all, Pieces, One, Fed, RanOne, RanOn, RanLoad, kind_by}
 
 -- ---- the next piece, and those of what is left
 
@@ -143,12 +132,6 @@ take_same (suc n) (suc m) a h = ap (λ (x : List ℕ). a ∷ x) (take_same n m a
 pub named : (l : List ℕ) (n : ℕ) → l ≡ replicate 200 0x61 → n ≤ 200 → take n l ≡ replicate n 0x61
 named l n e h = rw e (take_same n 200 0x61 h)
 
-pub named_long : (l : List ℕ) (n : ℕ) → l ≡ replicate 200 0x61 → n ≤ 200 → n ≡ length (take n l)
-named_long l n e h = rw (named l n e h) (sym (length-replicate {A = ℕ} n 0x61))
-
-pub kept_long : (l : List ℕ) (n : ℕ) → l ≡ all_replies → n ≤ 30 → n ≤ length l
-kept_long l n e h = rw e h
-
 stream_by : (v5 credentials : Bool) (name : ℕ) → stream_for (opening_of v5 credentials name) opens ≡ stream_of (kind_by v5 credentials) opens
 unfolding opening5 opening4
 stream_by true true name = refl
@@ -209,9 +192,6 @@ on_next single t left out t₁ out₁ r any o f =
       load = subst (λ (n : ℕ). Load (One single) t.state n (o.handshake ∷ f.handshakes) r.state) e (next o.drawn f.load);
       ran = ap (λ (x : Ran). (ran_all f.handshakes x.output x.counts).counts) o.ran ∙ f.ran;
     }
-
-pub output_long : (l : List ℕ) → l ≡ replicate 1024 0 → 1024 ≡ length l
-output_long l e = rw e (sym (length-replicate {A = ℕ} 1024 0))
 
 pub loaded : (single : Bool) (count seed : ℕ) (out : List ℕ) (r : Tally) → out ≡ replicate 1024 0 → RanOn single (tally_of no_counts seed) count out r → RanLoad single count seed r
 loaded single count seed out r e f =

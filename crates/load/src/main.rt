@@ -1,6 +1,5 @@
 // F-13: runs the handshakes of a stated load, and says how many opened and what they sent: `load COUNT SEED [bytes]`, with `bytes` in pieces of one byte.
 // `load COUNT SEED list` writes a line for each instead: version, credentials, the name's length, replies and pieces.
-
 #![tactic(auto)]
 
 ghost use Rattle.std.specs.Prelude.{◌≡◌, ℕ, ◌-◌, ◌≤◌, true, length, take, drop, replicate};
@@ -15,10 +14,11 @@ ghost use Rattle.load.specs.Arguments.{bytes_word, list_word};
 
 use address_format::numerals::read::Number;
 use address_format::numerals::{put_hex, read};
-use libc::STDOUT_FILENO;
 use lookup::none_found;
 use protocol::{Outcome, Port, SocksConfig};
 use socks::{Prepared, Session, Started};
+use std::env::Env;
+use std::io::{Print, Stdout};
 
 // What all handshakes so far came to, and the state that the next draw starts from.
 #[derive(Clone, Copy)]
@@ -205,22 +205,32 @@ fn run(count: u64, seed: u32, single: bool) -> Tally
     tally
 }
 
-fn argument(i: usize) -> Number {
+// Puts an argument into the text, and says how long it is: 0 if it is missing or does not fit.
+fn argument_text(rt: &impl Env, i: usize, text: &mut [u8]) -> usize
+    ensures { result ≤ length text.new }
+{
+    match rt.arg(i, text) {
+        Ok(n) => n,
+        Err(_) => 0,
+    }
+}
+
+fn argument(rt: &impl Env, i: usize) -> Number {
     let mut text = [0u8; 32];
-    let n = os::arg(i, &mut text);
+    let n = argument_text(rt, i, &mut text);
     read::number_of(&text[..n])
 }
 
 fn is_bytes(text: &[u8]) -> bool
     ensures { (result ≡ true → text.now ≡ bytes_word) × (text.now ≡ bytes_word → result ≡ true) }
 {
-    check::same(text, b"bytes")
+    text == b"bytes".as_slice()
 }
 
 fn is_list(text: &[u8]) -> bool
     ensures { (result ≡ true → text.now ≡ list_word) × (text.now ≡ list_word → result ≡ true) }
 {
-    check::same(text, b"list")
+    text == b"list".as_slice()
 }
 
 // What the third argument asks for.
@@ -230,47 +240,52 @@ struct Mode {
     list: bool,
 }
 
-fn third_argument() -> Mode {
+fn third_argument(rt: &impl Env) -> Mode {
     let mut text = [0u8; 5];
-    let n = os::arg(3, &mut text);
+    let n = argument_text(rt, 3, &mut text);
     Mode {
         single: is_bytes(&text[..n]),
         list: is_list(&text[..n]),
     }
 }
 
-fn print(name: &[u8], value: u64) {
-    io::write_all(STDOUT_FILENO, name);
-    io::print_decimal(STDOUT_FILENO, value);
+// Writes all bytes. What can't be written is lost.
+fn write_all(stdout: Stdout, bytes: &[u8]) {
+    let _ = stdout.write_all(bytes);
 }
 
-fn print_hex(s: &[u8])
+fn print(stdout: Stdout, name: &[u8], value: u64) {
+    write_all(stdout, name);
+    let _ = stdout.print(value);
+}
+
+fn print_hex(stdout: Stdout, s: &[u8])
     requires { length s.now ≤ 30 }
 {
     let mut text = [0u8; 60];
     let n = put_hex(s, &mut text, 0);
-    io::write_all(STDOUT_FILENO, &text[..n]);
+    write_all(stdout, &text[..n]);
 }
 
 // Version, credentials as used, and the name's length.
-fn print_choice(v5: bool, credentials: bool, name: usize) {
+fn print_choice(stdout: Stdout, v5: bool, credentials: bool, name: usize) {
     if !v5 {
-        print(b"4 0 ", name as u64);
+        print(stdout, b"4 0 ", name as u64);
         return;
     }
-    print(b"5 ", credentials as u64);
-    print(b" ", name as u64);
+    print(stdout, b"5 ", credentials as u64);
+    print(stdout, b" ", name as u64);
 }
 
 // The lengths of the pieces of so many bytes, split by commas; and the state behind them.
-fn print_pieces(from: u32, bytes: usize) -> u32 {
+fn print_pieces(stdout: Stdout, from: u32, bytes: usize) -> u32 {
     let first = draws::next_piece(from, bytes, false);
-    print(b" ", first.len as u64);
+    print(stdout, b" ", first.len as u64);
     let mut state = first.state;
     let mut left = bytes - first.len;
     while left > 0 {
         let piece = draws::next_piece(state, left, false);
-        print(b",", piece.len as u64);
+        print(stdout, b",", piece.len as u64);
         state = piece.state;
         left -= piece.len;
     }
@@ -278,52 +293,53 @@ fn print_pieces(from: u32, bytes: usize) -> u32 {
 }
 
 // A line for the next handshake.
-fn list_one(state: u32, replies: &[u8]) -> u32
+fn list_one(stdout: Stdout, state: u32, replies: &[u8]) -> u32
     requires { 30 ≡ length replies.now }
 {
     let choice = draws::choose(state);
-    print_choice(choice.v5, choice.credentials, choice.name);
+    print_choice(stdout, choice.v5, choice.credentials, choice.name);
     let part = replies_for(choice.v5, choice.credentials);
     let from = part.from;
     let to = part.to;
-    io::write_all(STDOUT_FILENO, b" ");
-    print_hex(&replies[from..to]);
-    let next = print_pieces(choice.state, to - from);
-    io::write_all(STDOUT_FILENO, b"\n");
+    write_all(stdout, b" ");
+    print_hex(stdout, &replies[from..to]);
+    let next = print_pieces(stdout, choice.state, to - from);
+    write_all(stdout, b"\n");
     next
 }
 
-fn list(count: u64, seed: u32) {
+fn list(stdout: Stdout, count: u64, seed: u32) {
     let replies = all_replies();
     let mut state = seed;
     let mut left = count;
     while left > 0 {
-        state = list_one(state, &replies);
+        state = list_one(stdout, state, &replies);
         left -= 1;
     }
 }
 
-fn print_run(count: u64, seed: u32, single: bool) {
+fn print_run(stdout: Stdout, count: u64, seed: u32, single: bool) {
     let tally = run(count, seed, single);
-    print(b"handshakes ", count);
-    print(b" open ", tally.opened);
-    print(b" sent ", tally.sent);
-    print(b" sum ", tally.sum);
-    io::write_all(STDOUT_FILENO, b"\n");
+    print(stdout, b"handshakes ", count);
+    print(stdout, b" open ", tally.opened);
+    print(stdout, b" sent ", tally.sent);
+    print(stdout, b" sum ", tally.sum);
+    write_all(stdout, b"\n");
 }
 
-fn main() {
-    let count = argument(1);
-    let number = argument(2);
+fn main(rt: HostRuntime) {
+    let stdout = rt.stdout();
+    let count = argument(&rt, 1);
+    let number = argument(&rt, 2);
     if !(count.ok && number.ok) {
-        io::write_all(STDOUT_FILENO, b"usage: load COUNT SEED [bytes|list]\n");
+        write_all(stdout, b"usage: load COUNT SEED [bytes|list]\n");
         return;
     }
     let seed = (number.value % 4294967296) as u32;
-    let asked = third_argument();
+    let asked = third_argument(&rt);
     if asked.list {
-        list(count.value, seed);
+        list(stdout, count.value, seed);
         return;
     }
-    print_run(count.value, seed, asked.single);
+    print_run(stdout, count.value, seed, asked.single);
 }
