@@ -1,4 +1,4 @@
-use Rattle.std.proofs.Common.{◌≡◌, ◌≤◌, length}
+use Rattle.std.proofs.Common.{◌≤◌, length}
 use Rattle.bench.proofs.run.Given as goal
 
 abbrev pub invariant-loop : goal.invariant-loop
