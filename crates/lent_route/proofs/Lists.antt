@@ -1,9 +1,9 @@
 -- Lists in a row: a part of them from a place on, and bytes written over one of them.
-use Prim.Native.Nat.{ℕ, zero, suc, ◌+◌, ◌-◌, ◌≤◌}
+use Prim.Native.Nat.{ℕ, ◌+◌}
 use native.Mathlib.Omega.{arith}
-use mathlib.Core.Path.{◌≡◌, refl, sym, ap, ◌∙◌}
-use mathlib.Core.List.{List, [], ◌∷◌, ◌++◌, append_assoc}
-use lib.ListN.{length, take, drop, replicate, get_or, length-append, length-replicate, replicate-append-replicate}
+use mathlib.Core.Path.{◌≡◌, sym, ap, ◌∙◌}
+use mathlib.Core.List.{List, ◌++◌, append_assoc}
+use lib.ListN.{length, drop, replicate, get_or, length-append, replicate-append-replicate}
 use lib.Seq.{take_at, drop_at, drop-append-add, get_or-append-add}
 use Rattle.protocol.specs.Bytes.{byte}
 use Rattle.buffers.specs.write.Written.{overwrite}

@@ -1,17 +1,14 @@
 -- Hops one behind the other: what each leaves of a route that is being prepared.
-use Prim.Native.Nat.{ℕ, zero, suc, ◌+◌, ◌-◌, ◌*◌, ◌^◌, ◌≤◌, ◌<◌}
+use Prim.Native.Nat.{ℕ, suc, ◌+◌, ◌-◌, ◌*◌, ◌≤◌, ◌<◌}
 use native.Mathlib.Omega.{arith}
-use mathlib.Core.Path.{◌≡◌, refl, sym, ap, subst, ◌∙◌}
-use mathlib.Core.Bool.{Bool, true, false, cond}
+use mathlib.Core.Path.{◌≡◌, refl, sym, ap, ◌∙◌}
+use mathlib.Core.Bool.{false}
 use mathlib.Core.List.{List, [], ◌∷◌, ◌++◌, append_assoc, append-nil}
-use lib.ListN.{length, take, drop, replicate, length-append, length-replicate}
-use lib.Seq.{drop_at}
+use lib.ListN.{length, replicate, length-append, length-replicate}
 use lib.Dec.{leb}
 use Rattle.protocol.specs.declared.AuthMethod.TheVariants.{NoAuth}
 use Rattle.protocol.specs.declared.Reply.TheVariants.{NegotiationRes}
 use Rattle.protocol.specs.declared.Answer as code
-use Rattle.protocol.specs.declared.Answer.TheVariants.{Accepted, Refused}
-use Rattle.protocol.specs.declared.SocksError.{SocksError}
 use Rattle.protocol.specs.declared.SocksError.TheVariants.{RouteLength}
 use Rattle.protocol.specs.Bound.{unbound, bound_of}
 use Rattle.protocol.specs.Opening.{Opening, v5, v4, no_auth, user_pass, Limits, refuse}
@@ -20,16 +17,14 @@ use Rattle.client_stages.specs.declared.due.Stage.TheVariants.{Awaiting}
 use Rattle.client_session.specs.declared.Session.{Session}
 use Rattle.client_session.specs.Calls.{kept_by}
 use Rattle.lent_numbers.specs.bytes.Numbers.{digits}
-use Rattle.lent_session.specs.State as session
 use Rattle.lent_session.specs.State.{session_at}
 use Rattle.lent_session.specs.Fits.{Fits}
 use Rattle.route_delivery.specs.declared.Hop.{Hop}
 use Rattle.route_spec.specs.Route.{Asked, opening_for, check_for}
 use Rattle.route_spec.proofs.Rooms.{EachLimits}
 use Rattle.route_session.specs.plan.Plan.{hop_for, hops_for, bytes_for}
-use Rattle.route_session.specs.calls.Calls.{empty_route}
-use Rattle.route_session.proofs.opening.Kept.{kept_size, hops_size, bytes_size}
-use Rattle.lent_route.specs.State.{Phase, preparing, opened, over, phase_by, phase_at, count_at, slot_of, kept_of, counts_of, carried, state_of, preparing_with, preparing_of}
+use Rattle.route_session.proofs.opening.Kept.{hops_size}
+use Rattle.lent_route.specs.State.{preparing, phase_by, phase_at, count_at, slot_of, kept_of, counts_of, preparing_with, preparing_of}
 use Rattle.lent_route.specs.Calls.{hop_answer, with_hop, hop_left, hop_told, hopped}
 use Rattle.lent_route.proofs.Writing.{keeping, head_of, head_row, head_long, read_back}
 use Rattle.lent_route.proofs.Slots.{Slotted, EachSlotted}

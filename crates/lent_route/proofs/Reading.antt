@@ -1,9 +1,9 @@
 -- The route that lent bytes mean, by the session of the proxy that is spoken to and what stands behind it.
-use Prim.Native.Nat.{ℕ, zero, suc, ◌+◌, ◌-◌, ◌*◌, ◌≤◌, ◌<◌, min}
+use Prim.Native.Nat.{ℕ, zero, suc, ◌+◌, ◌-◌, ◌*◌, ◌≤◌}
 use native.Mathlib.Omega.{arith}
 use mathlib.Core.Path.{◌≡◌, refl, sym, ap, ◌∙◌}
-use mathlib.Core.List.{List, [], ◌∷◌, ◌++◌}
-use lib.ListN.{length, take, drop, replicate, length-append, length-take, length-drop, length-replicate}
+use mathlib.Core.List.{List, ◌∷◌, ◌++◌}
+use lib.ListN.{length, take, drop, replicate, length-drop}
 use lib.Seq.{get_or-drop, drop-drop, drop_at, take-append-le, drop-append-le}
 use Rattle.protocol.specs.Bytes.{byte}
 use mathlib.Core.Bool.{true}
@@ -11,14 +11,14 @@ use Rattle.client_stages.specs.declared.due.Stage.TheVariants.{Awaiting}
 use Rattle.client_stages.specs.due.Parts.{first_of}
 use Rattle.client_session.specs.declared.Session.{Session}
 use Rattle.raw_numbers.specs.Numbers.{truth}
-use Rattle.lent_numbers.specs.bytes.Numbers.{number, digits}
-use Rattle.lent_session.specs.State.{two_at, session_at, state_of}
+use Rattle.lent_numbers.specs.bytes.Numbers.{number}
+use Rattle.lent_session.specs.State.{two_at, state_of}
 use Rattle.lent_session.specs.Fits.{Fits}
 use Rattle.route_delivery.specs.declared.Hop.{Hop}
-use Rattle.route_delivery.specs.Relay.{no_hop, hop_at, bytes_at, requests_at, goes_at, begun_at, Relay, handed, alone, handing_on, relayed}
+use Rattle.route_delivery.specs.Relay.{no_hop, hop_at, bytes_at, requests_at, goes_at, begun_at, handed, alone, handing_on, relayed}
 use Rattle.route_session.specs.declared.calls.Route.{Route}
 use Rattle.route_session.specs.calls.Calls.{last_in}
-use Rattle.lent_route.specs.State.{reply_at, hop_in, slots_from, hops_in, bytes_in, count_at, route_at}
+use Rattle.lent_route.specs.State.{reply_at, hop_in, slots_from, hops_in, bytes_in, route_at}
 use Rattle.lent_route.proofs.Writing.{keeping, head_of, head_row, head_long, read_back}
 
 -- ---- the slots and the requests are read behind the first 282 bytes

@@ -1,19 +1,18 @@
 -- Slots are read back from their writing.
-use Prim.Native.Nat.{ℕ, zero, suc, ◌+◌, ◌-◌, ◌*◌, ◌≤◌, ◌<◌}
+use Prim.Native.Nat.{ℕ, ◌+◌, ◌-◌, ◌*◌, ◌<◌}
 use native.Mathlib.Omega.{arith}
 use mathlib.Core.Path.{◌≡◌, refl, sym, ap, ◌∙◌}
 use mathlib.Core.List.{List, [], ◌∷◌, ◌++◌, append_assoc}
-use lib.ListN.{length, take, drop, replicate, length-append, length-replicate}
+use lib.ListN.{length, take, length-append}
 use Rattle.protocol.specs.declared.AuthMethod.TheVariants.{NoAuth, UserPass, NoneAcceptable}
 use Rattle.protocol.specs.declared.Reply.{Reply}
 use Rattle.protocol.specs.declared.Reply.TheVariants.{NegotiationRes, AuthenticationRes, ProxyRes, Response}
 use Rattle.protocol.specs.Bytes.{byte}
-use Rattle.client_stages.specs.declared.due.Lengths.{Lengths}
-use Rattle.raw_numbers.specs.Numbers.{truth, bit}
+use Rattle.raw_numbers.specs.Numbers.{truth}
 use Rattle.raw_numbers.proofs.Back.{bit_back}
 use Rattle.lent_numbers.specs.bytes.Numbers.{number, digits}
-use Rattle.lent_numbers.proofs.bytes.Laws.{length_digits, number_digits}
-use Rattle.lent_session.specs.State.{two_at, reply_number}
+use Rattle.lent_numbers.proofs.bytes.Laws.{number_digits}
+use Rattle.lent_session.specs.State.{reply_number}
 use Rattle.route_delivery.specs.declared.Hop.{Hop}
 use Rattle.lent_route.specs.State.{reply_at, hop_in, slots_from, slot_of, slots_of}
 use Rattle.lent_route.proofs.Lists.{drop_from, byte_from}

@@ -1,21 +1,20 @@
 -- An empty route, its hops and its opening, one call each, come to what one opening comes to.
-use Prim.Native.Nat.{ℕ, zero, suc, ◌+◌, ◌-◌, ◌*◌, ◌≤◌, ◌<◌}
+use Prim.Native.Nat.{ℕ, suc, ◌+◌, ◌-◌, ◌*◌, ◌≤◌, ◌<◌}
 use native.Mathlib.Nat.{zero-add}
 use native.Mathlib.Omega.{arith}
-use mathlib.Core.Path.{◌≡◌, refl, sym, ap, subst, ◌∙◌}
+use mathlib.Core.Path.{◌≡◌, refl, sym, ap, ◌∙◌}
 use mathlib.Core.Bool.{Bool, true, false, cond, ◌||◌}
 use mathlib.Core.List.Memᴰ
-use mathlib.Core.List.{List, [], ◌∷◌, ◌++◌, map, append_assoc, append-nil, Memᴰ}
+use mathlib.Core.List.{List, [], ◌∷◌, ◌++◌, map, append_assoc, append-nil}
 use lib.ListN.{length, take, drop, replicate, length-append, length-map, length-replicate, replicate-append-replicate}
 use lib.Seq.{take_at, drop_at, take-nil, take_all}
 use lib.Dec.{eqb, leb, ltb}
 use borrow.Author.Tests.{leb-true, leb-false, eq-eqb, ne_eqb, lt-ltb, le-ltb}
 use Rattle.protocol.specs.declared.Port.{Port}
-use Rattle.protocol.specs.declared.Record.{Record}
 use Rattle.protocol.specs.declared.Answer as code
 use Rattle.protocol.specs.declared.Answer.TheVariants.{Accepted, Refused}
 use Rattle.protocol.specs.declared.SocksError.{SocksError}
-use Rattle.protocol.specs.declared.SocksError.TheVariants.{RouteLength, ShortOutput, Settled}
+use Rattle.protocol.specs.declared.SocksError.TheVariants.{RouteLength}
 use Rattle.protocol.specs.declared.Version as version
 use Rattle.protocol.specs.declared.Version.TheVariants as Version
 use Rattle.protocol.specs.Bound.{unbound, bound_of}
@@ -33,14 +32,13 @@ use Rattle.route_spec.specs.Route as routing
 use Rattle.route_spec.specs.Route.{Proxy, host_of, port_of, Asked, over5, over4, asked_by, asked_of, asked, openings, opening_for, room_for, check_for, unless_refused, check_in_turn, check}
 use Rattle.route_spec.proofs.Asked.{asked_each}
 use Rattle.route_spec.proofs.Rooms.{EachLimits}
-use Rattle.route_session.specs.declared.calls.Route.{Route}
 use Rattle.route_session.specs.plan.Plan.{hops_for, bytes_for}
 use Rattle.route_session.specs.calls.Calls.{Call, refusal, last_in, empty_route, started_for, begun_with, begins, open_by, opening}
 use Rattle.route_session.proofs.opening.Kept.{kept_size, hops_size, bytes_size}
 use Rattle.route_session.proofs.opening.Planned.{begun_is}
-use Rattle.lent_route.specs.State.{Phase, preparing, opened, over, phase_by, phase_at, count_at, hops_in, bytes_in, kept_of, counts_of, carried, state_of, preparing_with, preparing_of}
+use Rattle.lent_route.specs.State.{Phase, preparing, over, phase_by, phase_at, count_at, hops_in, bytes_in, kept_of, counts_of, carried, state_of, preparing_of}
 use Rattle.lent_route.specs.Calls.{hop_left, hop_told, hopped, open_call, open_left}
-use Rattle.lent_route.specs.Together.{begun, all_hopped, all_told, open_told, open_leaves, open_puts, verdict, reached, at_once, Together}
+use Rattle.lent_route.specs.Together.{begun, all_hopped, all_told, open_told, open_leaves, open_puts, verdict, at_once, Together}
 use Rattle.lent_route.proofs.Writing.{keeping, head_of, read_back}
 use Rattle.lent_route.proofs.Kept.{hops_read, bytes_read}
 use Rattle.lent_route.proofs.Prepared.{each_slotted, session_of, hold_zeros, prepared_phase, prepared_count, prepared_row, prepared_head, hop_kept, hop_told_lem, hop_left_lem}

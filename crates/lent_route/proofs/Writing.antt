@@ -1,13 +1,12 @@
 -- A session with any bytes behind its hold is read back from its writing.
-use Prim.Native.Nat.{ℕ, ◌+◌, ◌*◌, ◌≤◌, ◌<◌, ◌^◌}
-use native.Mathlib.Omega.{arith}
-use mathlib.Core.Path.{◌≡◌, refl, sym, ap, ◌∙◌}
-use mathlib.Core.List.{List, [], ◌∷◌, ◌++◌, append_assoc}
-use lib.ListN.{length, take, drop, replicate, length-append, length-replicate, take-append-drop, length-take}
+use Prim.Native.Nat.{ℕ}
+use mathlib.Core.Path.{◌≡◌, sym, ap}
+use mathlib.Core.List.{List, [], ◌++◌, append_assoc}
+use lib.ListN.{length, length-append}
 use lib.Seq.{take_at, drop_at}
 use Rattle.client_session.specs.declared.Session.{Session}
-use Rattle.lent_numbers.specs.bytes.Numbers.{number, digits}
-use Rattle.lent_session.specs.State.{two_at, session_at, state_of}
+use Rattle.lent_numbers.specs.bytes.Numbers.{digits}
+use Rattle.lent_session.specs.State.{session_at, state_of}
 use Rattle.lent_session.specs.Fits.{Fits}
 use Rattle.lent_session.proofs.Writing.{state_back}
 

@@ -1,9 +1,9 @@
 -- What a piece leaves of a route's numbers is small enough for their places.
-use Prim.Native.Nat.{ℕ, zero, suc, ◌+◌, ◌≤◌, ◌<◌}
+use Prim.Native.Nat.{ℕ, zero, suc, ◌≤◌, ◌<◌}
 use native.Mathlib.Omega.{arith}
-use mathlib.Core.Path.{◌≡◌, refl, sym, ap, ◌∙◌}
+use mathlib.Core.Path.{◌≡◌}
 use mathlib.Core.Bool.{Bool, true, false, cond, not}
-use mathlib.Core.List.{List, [], ◌∷◌, ◌++◌}
+use mathlib.Core.List.{List, [], ◌∷◌}
 use lib.ListN.{length, drop, replicate, length-append}
 use lib.Dec.{leb}
 use Rattle.protocol.specs.declared.SocksError.TheVariants.{Settled, OutOfOrder, ShortOutput}
@@ -12,7 +12,7 @@ use Rattle.client_stages.specs.declared.due.Stage.TheVariants.{Awaiting, Open, F
 use Rattle.client_stages.specs.due.Stages.{SideSession, holds_of}
 use Rattle.client_session.specs.declared.Session.{Session}
 use Rattle.client_session.specs.Session.{side_of, view, packed, room_at}
-use Rattle.client_session.specs.Calls.{Call, refusal, takes, deliver}
+use Rattle.client_session.specs.Calls.{refusal, takes, deliver}
 use Rattle.route_delivery.specs.declared.Hop.{Hop}
 use Rattle.route_delivery.specs.Relay.{goes_at, begun_at, Relay, handed, alone, handing_on, relayed}
 use Rattle.talk.specs.Talk.{is_over}

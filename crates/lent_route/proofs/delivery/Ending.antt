@@ -1,15 +1,14 @@
 -- An end of a route in lent bytes is that of the session of the proxy that is spoken to.
-use Prim.Native.Nat.{ℕ, ◌+◌, ◌≤◌, ◌<◌}
+use Prim.Native.Nat.{ℕ}
 use native.Mathlib.Omega.{arith}
-use mathlib.Core.Path.{◌≡◌, refl, sym, ap, subst, ◌∙◌}
+use mathlib.Core.Path.{◌≡◌, refl, sym, ap, ◌∙◌}
 use mathlib.Core.Bool.{Bool, true, false, cond, not}
-use mathlib.Core.List.{List, [], ◌∷◌, ◌++◌}
+use mathlib.Core.List.{List, [], ◌++◌}
 use lib.ListN.{length, take, drop, replicate, length-replicate, take-append-drop}
-use Rattle.protocol.specs.declared.Answer.TheVariants.{Accepted, Refused}
-use Rattle.protocol.specs.declared.Reply.{Reply}
+use Rattle.protocol.specs.declared.Answer.TheVariants.{Accepted}
 use Rattle.protocol.specs.declared.SocksError.{SocksError}
 use Rattle.protocol.specs.declared.SocksError.TheVariants.{Settled, OutOfOrder, UnexpectedEof}
-use Rattle.protocol.specs.Numbers.{number, answer_number}
+use Rattle.protocol.specs.Numbers.{number}
 use Rattle.protocol.specs.Bytes.{Bytes}
 use Rattle.client_stages.specs.declared.due.Stage.{Stage}
 use Rattle.client_stages.specs.declared.due.Stage.TheVariants.{Awaiting, Open, Failed}
@@ -27,7 +26,7 @@ use Rattle.lent_session.specs.Calls as session-steps
 use Rattle.route_session.specs.declared.calls.Route.{Route}
 use Rattle.route_session.specs.calls.Calls.{Call, refusal, session_in, with_session, end}
 use Rattle.talk.specs.Talk as talk
-use Rattle.lent_route.specs.State.{Phase, preparing, opened, over, phase_by, phase_at, route_at}
+use Rattle.lent_route.specs.State.{phase_by, phase_at, route_at}
 use Rattle.lent_route.specs.Calls.{step_by, left_by, Leaves, Untimely, Delivers}
 use Rattle.lent_route.proofs.Writing.{keeping}
 use Rattle.lent_route.proofs.Prefix.{prefix}

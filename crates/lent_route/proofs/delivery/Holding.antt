@@ -1,11 +1,11 @@
 -- A piece that decides nothing is only held.
-use Prim.Native.Nat.{ℕ, suc, ◌+◌, ◌-◌, ◌*◌, ◌%◌, ◌^◌, ◌≤◌, ◌<◌, min, zero-le}
+use Prim.Native.Nat.{ℕ, ◌+◌, ◌%◌, ◌^◌, zero-le}
 use native.Mathlib.Nat.{le_refl}
 use native.Mathlib.Omega.{arith}
-use mathlib.Core.Path.{◌≡◌, refl, sym, ap, subst, ◌∙◌}
-use mathlib.Core.Bool.{Bool, true, false}
-use mathlib.Core.List.{List, [], ◌∷◌, ◌++◌, append_assoc}
-use lib.ListN.{length, take, drop, replicate, take-append-drop}
+use mathlib.Core.Path.{◌≡◌, refl, sym, ap, ◌∙◌}
+use mathlib.Core.Bool.{true}
+use mathlib.Core.List.{List, ◌++◌, append_assoc}
+use lib.ListN.{length, take, drop, take-append-drop}
 use lib.Seq.{drop-drop}
 use Rattle.protocol.specs.declared.Answer.TheVariants.{Accepted}
 use Rattle.protocol.specs.declared.Reply.{Reply}
@@ -35,9 +35,9 @@ use Rattle.route_delivery.specs.Relay as relay
 use Rattle.route_delivery.specs.Relay.{hop_at, relayed, RelayResult}
 use Rattle.lent_route.proofs.relay.Laws.{hands, stops_here}
 use Rattle.route_session.specs.calls.Calls.{deliver}
-use Rattle.lent_route.specs.State.{count_at, route_at, spoken_at}
+use Rattle.lent_route.specs.State.{route_at}
 use Rattle.lent_route.specs.Calls.{Leaves}
-use Rattle.lent_route.specs.delivery.Settling.{spot_in, Short, lengths_by, Settles}
+use Rattle.lent_route.specs.delivery.Settling.{Short}
 use Rattle.lent_route.proofs.Writing.{keeping, head_of, head_row}
 use Rattle.lent_route.proofs.Prefix.{prefix, first_long}
 use Rattle.lent_route.proofs.delivery.Relaying.{fits_first, spot, asks, leaves_relayed}

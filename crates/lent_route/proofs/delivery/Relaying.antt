@@ -1,15 +1,12 @@
 -- What a delivery leaves of a route in lent bytes, by what the functions below it say.
-use Prim.Native.Nat.{ℕ, suc, ◌+◌, ◌-◌, ◌*◌, ◌%◌, ◌^◌, ◌≤◌, ◌<◌, min, zero-le}
-use native.Mathlib.Nat.{le_refl}
+use Prim.Native.Nat.{ℕ, ◌+◌, ◌-◌, ◌*◌, ◌≤◌, ◌<◌}
 use native.Mathlib.Omega.{arith}
 use mathlib.Core.Path.{◌≡◌, refl, sym, ap, subst, ◌∙◌}
-use mathlib.Core.Bool.{Bool, true, false}
-use mathlib.Core.List.{List, [], ◌∷◌, ◌++◌, append_assoc, append-nil}
-use lib.ListN.{length, take, drop, replicate, length-append, length-take, length-drop, length-replicate, take-append-drop}
-use lib.Seq.{drop-drop}
-use Rattle.protocol.specs.declared.Answer.TheVariants.{Accepted, Refused}
+use mathlib.Core.Bool.{true}
+use mathlib.Core.List.{List, ◌++◌, append-nil}
+use lib.ListN.{length, take, drop, replicate, length-append, length-take, length-drop, length-replicate}
+use Rattle.protocol.specs.declared.Answer.TheVariants.{Accepted}
 use Rattle.protocol.specs.declared.Reply.{Reply}
-use Rattle.protocol.specs.declared.Bound.{Bound}
 use Rattle.protocol.specs.declared.SocksError.TheVariants.{Settled, OutOfOrder}
 use Rattle.protocol.specs.Numbers.{answer_number}
 use Rattle.protocol.specs.Bytes.{Bytes}
@@ -25,7 +22,6 @@ use Rattle.lent_numbers.specs.told.Told.{outcome_of}
 use Rattle.lent_session.specs.State as sessions
 use Rattle.lent_session.specs.State.{two_at, session_at}
 use Rattle.lent_session.specs.Fits.{Fits, awaited_number}
-use Rattle.lent_session.specs.delivery.Changes.{accepted}
 use Rattle.lent_session.proofs.delivery.Leaving.{fits_at, over_none}
 use Rattle.lent_session.proofs.telling.Laws.{told_is}
 use Rattle.route_delivery.specs.declared.Hop.{Hop}
@@ -35,11 +31,11 @@ use Rattle.route_delivery.specs.Relay as relay
 use Rattle.route_delivery.specs.Relay.{Relay, relayed, RelayResult}
 use Rattle.route_session.specs.declared.calls.Route.{Route}
 use Rattle.route_session.specs.declared.calls.Delivered.{Delivered}
-use Rattle.route_session.specs.calls.Calls.{Call, refusal, last_in, room_in, is_over, outcome, deliver, DeliverResult}
+use Rattle.route_session.specs.calls.Calls.{Call, refusal, last_in, outcome, deliver, DeliverResult}
 use Rattle.route_session.proofs.calls.Laws.{relay_asks, takes_as, delivers_takes}
 use Rattle.talk.specs.Talk as talk
-use Rattle.lent_route.specs.State.{Phase, preparing, opened, over, phase_at, hops_in, bytes_in, count_at, route_at, spoken_at}
-use Rattle.lent_route.specs.Calls.{step_by, onward, left_by, Leaves, Untimely, Delivers}
+use Rattle.lent_route.specs.State.{Phase, preparing, opened, over, phase_at, hops_in, count_at, route_at, spoken_at}
+use Rattle.lent_route.specs.Calls.{left_by, Leaves, Untimely, Delivers}
 use Rattle.lent_route.specs.relay.Lending.{Relayable}
 use Rattle.lent_route.specs.delivery.Settling.{spot_in, lengths_by, Settles}
 use Rattle.lent_route.proofs.Writing.{keeping}

@@ -1,23 +1,20 @@
 -- What the calls that prepare a route leave, by what the functions below them say.
-use Prim.Native.Nat.{ℕ, zero, suc, ◌+◌, ◌-◌, ◌*◌, ◌≤◌, ◌<◌}
+use Prim.Native.Nat.{ℕ, ◌+◌, ◌-◌, ◌*◌, ◌≤◌, ◌<◌}
 use native.Mathlib.Omega.{arith}
 use mathlib.Core.Path.{◌≡◌, refl, sym, ap, subst, ◌∙◌}
 use mathlib.Core.Bool.{Bool, true, false, cond}
-use mathlib.Core.List.{List, [], ◌∷◌, ◌++◌, append_assoc, append-nil}
-use lib.ListN.{length, take, drop, set, replicate, length-append, length-take, length-drop, length-replicate, take-append-drop}
+use mathlib.Core.List.{List, [], ◌∷◌, ◌++◌, append-nil}
+use lib.ListN.{length, take, drop, set, replicate, length-take, length-drop, length-replicate, take-append-drop}
 use lib.Seq.{take_at, drop_at, drop-drop, length-take-le}
-use lib.Dec.{leb}
 use borrow.Author.Tests.{le-leb, lt-leb}
 use Rattle.protocol.specs.declared.Answer.{Answer}
 use Rattle.protocol.specs.declared.Answer.TheVariants.{Accepted, Refused}
-use Rattle.protocol.specs.declared.Reply.{Reply}
 use Rattle.protocol.specs.declared.SocksError.{SocksError}
 use Rattle.protocol.specs.declared.SocksError.TheVariants.{RouteLength}
 use Rattle.protocol.specs.Numbers.{number, status, answer_number}
-use Rattle.protocol.specs.Opening.{Opening, first_reply, refuse}
+use Rattle.protocol.specs.Opening.{Opening, refuse}
 use Rattle.buffers.specs.write.Written.{overwrite, Wrote}
 use Rattle.buffers.proofs.write.Laws.{length_overwrite}
-use Rattle.client_stages.specs.declared.due.Lengths.{Lengths}
 use Rattle.client_stages.specs.declared.due.Stage.{Stage}
 use Rattle.client_stages.specs.declared.due.Stage.TheVariants.{Awaiting, Open, Failed}
 use Rattle.client_session.specs.declared.Prepared.{Prepared}
@@ -40,7 +37,7 @@ use Rattle.route_spec.specs.Route.{Asked, over5, over4, opening_for, check_for}
 use Rattle.route_session.specs.plan.Plan.{first_in, hop_for, hops_for, bytes_for, prepared_for}
 use Rattle.route_session.specs.calls.Calls.{empty_route}
 use Rattle.lent_route.specs.State.{Phase, preparing, opened, over, phase_by, phase_at, count_at, slot_of, slots_of, kept_of, state_of, preparing_of}
-use Rattle.lent_route.specs.Calls.{asked5, asked4, hop_answer, with_hop, hop_left, hop_told, hopped, Hops}
+use Rattle.lent_route.specs.Calls.{asked5, asked4, hop_answer, hop_left, hop_told, Hops}
 use Rattle.lent_route.specs.declared.preparing.Ready.{Ready}
 use Rattle.lent_route.specs.preparing.Keeping.{turn_of, kept_left, ReadyResult}
 use Rattle.lent_route.proofs.Lists.{zeros_row, overwrite_at}

@@ -1,5 +1,5 @@
 -- What an opening of a route in lent bytes comes to, by what the functions below it say.
-use Prim.Native.Nat.{ℕ, suc, ◌+◌, ◌-◌, ◌*◌, ◌^◌, ◌≤◌, ◌<◌}
+use Prim.Native.Nat.{ℕ, ◌+◌, ◌-◌, ◌*◌, ◌≤◌, ◌<◌}
 use native.Mathlib.Omega.{arith}
 use mathlib.Core.Path.{◌≡◌, refl, sym, ap, subst, ◌∙◌}
 use mathlib.Core.Bool.{Bool, true, false, cond, ◌||◌}
@@ -8,7 +8,6 @@ use lib.ListN.{length, take, drop, replicate, length-drop, length-replicate}
 use lib.Dec.{eqb, ltb}
 use borrow.Author.Tests.{eq-eqb, ne_eqb, lt-ltb, le-ltb}
 use Rattle.protocol.specs.declared.Outcome.TheVariants.{Waiting}
-use Rattle.protocol.specs.declared.Answer.TheVariants.{Accepted, Refused}
 use Rattle.protocol.specs.declared.SocksError.{SocksError}
 use Rattle.protocol.specs.declared.SocksError.TheVariants.{RouteLength, Settled, OutOfOrder}
 use Rattle.protocol.specs.Numbers.{number}
@@ -29,11 +28,10 @@ use Rattle.lent_session.specs.Calls as session-steps
 use Rattle.route_delivery.specs.declared.Hop.{Hop}
 use Rattle.route_delivery.specs.declared.Spot.{Spot}
 use Rattle.route_delivery.specs.Relay.{no_hop, hop_at, goes_at, begun_spot}
-use Rattle.route_session.specs.declared.calls.Route.{Route}
 use Rattle.route_session.specs.opening.First.{fresh_spot}
-use Rattle.route_session.specs.calls.Calls.{Call, refusal, last_in, outcome, empty_route, begun_with, begins}
+use Rattle.route_session.specs.calls.Calls.{Call, refusal, last_in, empty_route, begun_with, begins}
 use Rattle.route_session.proofs.calls.Laws.{written}
-use Rattle.lent_route.specs.State.{Phase, preparing, opened, over, phase_at, hops_in, bytes_in, count_at, route_at, slots_of, kept_of, counts_of, spoken_at, carried, state_of}
+use Rattle.lent_route.specs.State.{Phase, preparing, opened, over, phase_at, hops_in, bytes_in, count_at, route_at, slots_of, kept_of, counts_of, spoken_at, state_of}
 use Rattle.lent_route.specs.Calls.{step_by, Untimely, open_call, open_left, Opens, OpensIn}
 use Rattle.lent_route.proofs.Writing.{keeping, head_of, head_row, head_long}
 use Rattle.lent_route.proofs.Prefix.{prefix}

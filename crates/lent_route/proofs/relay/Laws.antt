@@ -1,8 +1,7 @@
 -- What is sent of a proxy's requests, what its own delivery comes to, and how the rest goes on, where the requests of the proxies in use alone are lent.
-use Rattle.std.proofs.Common.{◌≡◌, ℕ, zero, suc, ◌+◌, ◌-◌, ◌*◌, ◌%◌, ◌^◌, ◌<◌, ◌≤◌, min, Bool, true, false, cond, List, [], ◌++◌, length, take, drop, replicate, sym, refl, ap, ◌∙◌, subst, true≢false, append_assoc, arith, length-drop, length-take, take-take, drop-drop, ltb-true, lt-ltb}
+use Rattle.std.proofs.Common.{◌≡◌, ℕ, zero, suc, ◌+◌, ◌-◌, ◌*◌, ◌%◌, ◌^◌, ◌<◌, ◌≤◌, true, false, List, ◌++◌, length, take, drop, replicate, sym, refl, ap, ◌∙◌, subst, true≢false, append_assoc, arith, length-drop, length-take, take-take, drop-drop, ltb-true, lt-ltb}
 use lib.ListN.{length-replicate}
 use lib.Seq.{take-append_seam}
-use Rattle.protocol.specs.declared.Bound.{Bound}
 use Rattle.protocol.proofs.Named.{drop_first}
 use Rattle.buffers.specs.write.Written.{Wrote}
 use Rattle.buffers.proofs.write.Laws.{then, wrote_length}
@@ -171,8 +170,8 @@ module _ (hops : List Hop) (p : Spot) (bytes hold piece out : List ℕ) (y : Rel
       goes_long : length (goes_at hops bytes n) ≤ first_size (hop_at hops n).lengths (hop_at hops n).first
       goes_long = rw (first_part (hop_at hops n).first (requests_at hops bytes n)) (omega (arith, length-take (first_size (hop_at hops n).lengths (hop_at hops n).first) (drop 0 (bytes_at bytes n))))
 
-      begun_spot_lem : begun ≡ spot_of n (begun_at hops bytes n left.session) begun.sent
-      begun_spot_lem = q ∙ ap (λ (z : Spot). begun_spot hops z begun.sent) w.spot
+      begun_as : begun ≡ spot_of n (begun_at hops bytes n left.session) begun.sent
+      begun_as = q ∙ ap (λ (z : Spot). begun_spot hops z begun.sent) w.spot
 
       relay_asks : Relayable hops begun bytes hold₁ (length out₂)
       relay_asks =
@@ -181,7 +180,7 @@ module _ (hops : List Hop) (p : Spot) (bytes hold piece out : List ℕ) (y : Rel
             small = rw (ap (λ (z : Spot). z.attempts) q) a;
             whole = rw index_is (omega (arith, y.whole, one_behind.0));
             holds = same ∙ y.holds;
-            roomy = rw begun_spot_lem (omega (arith, f, y.roomy, one_behind.0, wrote_length w.wrote, wrote_length u, rw index_is at u.place, goes_long, first_due (hop_at hops n).lengths (hop_at hops n).first));
+            roomy = rw begun_as (omega (arith, f, y.roomy, one_behind.0, wrote_length w.wrote, wrote_length u, rw index_is at u.place, goes_long, first_due (hop_at hops n).lengths (hop_at hops n).first));
           }
 
       pub goes_further : Steps hops p bytes hold piece out (record { spot = begun; used = here.used; more = true }) hold₁ out₂
@@ -191,7 +190,7 @@ module _ (hops : List Hop) (p : Spot) (bytes hold piece out : List ℕ) (y : Rel
             goes = λ t. record {
               some = one_behind.0;
               opened = one_behind.1;
-              spot = begun_spot_lem;
+              spot = begun_as;
               used = w.used;
               held = w.held;
               wrote = then w.wrote (subst (λ (k : ℕ). Wrote out₁ here.spot.sent (goes_at hops bytes k) begun.sent out₂) index_is u);

@@ -1,5 +1,5 @@
 -- F-5: a delivery by its parts, as the code has it: a piece that is only held, and where another leaves the route.
-use Rattle.std.specs.Prelude.{ℕ, ◌^◌, ◌≤◌, ◌<◌, min, ◌≡◌, List, take, drop}
+use Rattle.std.specs.Prelude.{ℕ, ◌^◌, ◌≤◌, ◌<◌, min, ◌≡◌, List, drop}
 use Rattle.protocol.specs.declared.Reply.{Reply}
 use Rattle.client_stages.specs.declared.due.Lengths.{Lengths}
 use Rattle.client_stages.specs.declared.due.Stage.TheVariants.{Awaiting}

@@ -1,8 +1,7 @@
 use native.Mathlib.Omega.{arith}
-use mathlib.Core.Path.{◌≡◌, refl, ap, ◌∙◌}
+use mathlib.Core.Path.{◌≡◌, refl, ◌∙◌}
 use Prim.Native.Nat.{◌+◌, ◌-◌, ◌*◌}
-use lib.ListN.{length, take, drop}
-use mathlib.Core.List.{◌++◌}
+use lib.ListN.{length}
 use mathlib.Core.Bool.{false}
 use Rattle.lent_route.specs.Calls.{asked5}
 use Rattle.client_opening_v5.proofs.opening.Preparing.{prepares5}
