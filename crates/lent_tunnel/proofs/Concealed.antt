@@ -12,7 +12,6 @@ use Rattle.protocol.specs.declared.Answer.TheVariants.{Accepted, Refused}
 use Rattle.protocol.specs.declared.Address.{Address}
 use Rattle.protocol.specs.declared.Bound.{Bound}
 use Rattle.protocol.specs.declared.Outcome.{Outcome}
-use Rattle.protocol.specs.declared.SocksError.{SocksError}
 use Rattle.protocol.specs.Bytes.{Bytes}
 use Rattle.protocol.specs.Client as client
 use Rattle.protocol.specs.Opening.{V5, Sixteen}
@@ -32,14 +31,13 @@ use Rattle.noninterference.specs.Calls as plain
 use Rattle.noninterference.specs.Calls.{Asks, start, deliver, end, outcome, attempts, bound, bound_text, Call, SameCalls, none, more, AlikeBut, SameBut, Hidden}
 use Rattle.noninterference.proofs.Prepared.{concealed}
 use Rattle.noninterference.proofs.Bytes.{agree_all, agree_join}
-use Rattle.lent_numbers.specs.declared.told.RawStep.{RawStep}
 use Rattle.lent_numbers.specs.bytes.Numbers.{digits}
 use Rattle.lent_numbers.specs.told.Told.{outcome_of}
 use Rattle.lent_numbers.proofs.bytes.Laws.{length_digits}
 use Rattle.lent_session.specs.Fits.{Fits}
-use Rattle.lent_session.specs.State.{session_at, state_of, code_of, error_number, status_number}
-use Rattle.lent_session.specs.Calls.{step_by, left_by, address_of}
-use Rattle.lent_tunnel.specs.Concealed.{stepped, stands, tried, named, written, made_by, made, Stored, ByteCalls, LentHidden, LentConcealed}
+use Rattle.lent_session.specs.State.{state_of, code_of, error_number, status_number}
+use Rattle.lent_session.specs.Calls.{step_by, address_of}
+use Rattle.lent_tunnel.specs.Concealed.{stepped, stands, tried, named, written, made_by, Stored, ByteCalls, LentHidden, LentConcealed}
 use Rattle.lent_tunnel.proofs.Kept.{start_whole, deliver_whole, end_whole, Written, means, left}
 use Rattle.lent_tunnel.proofs.Openings.{whole5}
 use Rattle.lent_tunnel.proofs.Turns.{start_used, end_counts}

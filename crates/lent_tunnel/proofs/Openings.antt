@@ -1,10 +1,10 @@
 -- What preparing leaves can stand in lent bytes, and is all zeros once it is wiped.
-use Prim.Native.Nat.{ℕ, ◌+◌, ◌-◌, ◌^◌, ◌≤◌, ◌<◌, min}
+use Prim.Native.Nat.{ℕ, ◌+◌, ◌-◌, ◌≤◌}
 use native.Mathlib.Omega.{arith}
-use mathlib.Core.Path.{◌≡◌, refl, ap, sym, subst, ◌∙◌}
+use mathlib.Core.Path.{◌≡◌, refl, ap, sym, ◌∙◌}
 use mathlib.Core.Bool.{Bool, false}
 use mathlib.Core.List.{List, [], ◌∷◌, ◌++◌}
-use lib.ListN.{length, take, drop, replicate, length-append, length-replicate, replicate-append-replicate}
+use lib.ListN.{length, drop, replicate, length-append, length-replicate, replicate-append-replicate}
 use lib.Seq.{drop-append-add, drop_at}
 use lib.Dec.{lit<}
 use Rattle.protocol.specs.declared.Answer.{Answer}
@@ -19,14 +19,13 @@ use Rattle.protocol.specs.Opening.{V5, V4, check5, check4, Opening, v5, v4, no_a
 use Rattle.protocol.proofs.Limits.{limits5, limits4}
 use Rattle.client_stages.specs.declared.due.Stage.{Stage}
 use Rattle.client_stages.specs.declared.due.Stage.TheVariants.{Awaiting}
-use Rattle.client_stages.specs.declared.due.Requests.{Requests}
 use Rattle.client_session.specs.declared.Session.{Session}
 use Rattle.client_session.specs.Calls.{kept_with, fresh, prepared_for, empty_session, prepared_by, prepare5, prepare4}
 use Rattle.lent_numbers.specs.bytes.Numbers.{digits}
 use Rattle.lent_numbers.proofs.bytes.Laws.{length_digits}
 use Rattle.lent_session.specs.Fits.{Fits}
 use Rattle.lent_session.proofs.Writing.{state_back}
-use Rattle.lent_session.specs.State.{session_at, state_of, two_at, code_of, error_number, status_number}
+use Rattle.lent_session.specs.State.{state_of, two_at, code_of, error_number, status_number}
 use Rattle.lent_session.specs.Calls.{written, wiped}
 use Rattle.lent_tunnel.proofs.Kept.{most, Whole}
 

@@ -5,13 +5,12 @@ use mathlib.Core.Path.{◌≡◌, refl, ap, sym, subst, ◌∙◌}
 use mathlib.Core.Logic.{◌↔◌}
 use mathlib.Core.Bool.{true}
 use mathlib.Core.List.{List}
-use lib.ListN.{length, take, drop, replicate}
+use lib.ListN.{length, take, drop}
 use lib.Dec.{leb}
 use Rattle.protocol.specs.declared.Answer.{Answer}
 use Rattle.protocol.specs.declared.Answer.TheVariants.{Accepted, Refused}
 use Rattle.protocol.specs.declared.Outcome.{Outcome}
 use Rattle.protocol.specs.declared.Outcome.TheVariants.{Waiting, Open, Failed}
-use Rattle.protocol.specs.declared.SocksError.{SocksError}
 use Rattle.protocol.specs.Bytes.{Bytes, BytePieces}
 use Rattle.protocol.specs.Numbers.{answer_number}
 use Rattle.protocol.specs.Opening.{Opening, v5, v4, opening5, opening4, check5, check4, start_room, delivery_room}
@@ -20,7 +19,7 @@ use Rattle.protocol.specs.Wants.{WantedBy}
 use Rattle.protocol.proofs.Limits.{number_is}
 use Rattle.client_session.specs.declared.Session.{Session}
 use Rattle.client_session.specs.Session.{outcome, bound, wants}
-use Rattle.client_session.specs.Calls.{Call, refusal, prepared_for, prepared_by, prepare5, prepare4, start, deliver}
+use Rattle.client_session.specs.Calls.{Call, prepared_for, prepared_by, prepare5, prepare4, start, deliver}
 use Rattle.socks.specs.Demand3.{receiver, Demand3, Tunnelled}
 use Rattle.socks.specs.Attempts.{Effort, Tried}
 use Rattle.socks.specs.Turns.{Asking}
@@ -33,7 +32,6 @@ use Rattle.socks.proofs.Turns.{start_untouched, deliver_untouched}
 use Rattle.lent_numbers.specs.declared.told.RawOutcome.{RawOutcome}
 use Rattle.lent_numbers.specs.told.Told.{outcome_of}
 use Rattle.raw_records.proofs.Sixteen.{sixteen}
-use Rattle.lent_session.specs.Fits.{Fits}
 use Rattle.lent_session.proofs.Writing.{state_back}
 use Rattle.lent_session.specs.State.{session_at, state_of}
 use Rattle.lent_session.specs.Given.{given5, given4}

@@ -15,7 +15,6 @@ use Rattle.protocol.specs.declared.Outcome.TheVariants as outcomes
 use Rattle.protocol.specs.declared.Reply.TheVariants.{NegotiationRes, AuthenticationRes, ProxyRes, Response}
 use Rattle.protocol.specs.declared.SocksError.{SocksError}
 use Rattle.protocol.specs.declared.SocksError.TheVariants.{ShortOutput, Settled, OutOfOrder}
-use Rattle.protocol.specs.Bytes.{Bytes}
 use Rattle.protocol.specs.Client as client
 use Rattle.protocol.specs.Numbers.{answer_number}
 use Rattle.protocol.specs.Opening.{Condition, ◌↣◌, conditions5, conditions4, First, Answers, refuse}
