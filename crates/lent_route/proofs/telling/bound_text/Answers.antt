@@ -22,4 +22,4 @@ returns c =
     let s = a.s.now in
     let v = c.bound_text in
     let q = ap (λ (x : Session). write_bound x a.text.now) (prefix s (omega (arith, c.requires))) ∙ text_same s (take 1024 (drop 282 s)) a.text.now in
-    record { tells = subst (λ (t : TextCall). Tells t v.result v.new.text) q v.ensures.tells; enough = v.ensures.answer_nonzero }
+    record { tells = subst (λ (t : TextCall). Tells t v.result v.new.text) q v.ensures.tells; enough = v.ensures.enough }
