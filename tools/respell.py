@@ -1,7 +1,7 @@
 #!/usr/bin/env python3
 """Spells the repository's own definitions and lemmas as Rattle does: words in snake case, types and modules in camel case.
 
-usage: respell.py [--check]      at the top of the repository, behind /opt/rattle/port/port.py
+usage: respell.py [--check]      at the top of the repository, behind the kit's port.py
 
     isOver, drop-at, Its-port  ->  is_over, drop_at, ItsPort
 
@@ -19,6 +19,15 @@ NAME = r"[^\s(){}.;,@\"«»\[\]\\:]+"
 TOKEN = re.compile(r"--[^\n]*|//[^\n]*|\"(?:[^\"\\\n]|\\.)*\"|«[^»\n]*»|" + NAME)
 DECLARED = re.compile(r"^\s*((?:(?:unfoldable|abbrev|pub|data|record)\s+)*)(" + NAME + r")\s*(?:[({].*)?:(?:\s|$)")
 NO_NAME = {"let", "use", "module", "where", "in", "λ", "pub", "abbrev", "data", "record"}
+# Fields that read better under a name of their own, by crate.
+FIELDS = {
+    "both_ends": {"all_sent_lem": "requests_gone"},
+    "proxy": {"answer_number_lem": "answering_number"},
+    "raw_tunnel": {"answer_number_lem": "answering_number"},
+    "lent_tunnel": {"answer_number_lem": "answering_number"},
+    "proxy_url_route": {"no_proxy_lem": "none_given"},
+    "proxy_url": {it + "_lem": it for it in ("local_dns", "proxy_auth", "user_len", "password_len", "host_at", "host_len")},
+}
 # Lemmas that port.py gave the spelling of a definition beside them.
 TAKEN = {"at_first", "digits_from", "in_two", "is_name", "kept_by", "open_told", "text_in", "at_stage"}
 
@@ -101,6 +110,8 @@ def main():
             word = found[0]
             if word[:2] == "--":
                 return re.sub(r"[a-z][a-z0-9]*(?:[A-Z][a-z0-9]*)+", lambda it: turned.get(it[0], it[0]), word)
+            if word[:2] == "//":
+                return re.sub(r"`([^`\s]+)`", lambda it: f"`{turned.get(it[1], it[1])}`", word)
             if word not in turned or word in names or word[0] == '"':
                 return word
             before = re.search(r"([^\s(){};,.]+)\.$", text[max(0, found.start() - 60):found.start()])
@@ -112,7 +123,10 @@ def main():
                 return word
             return turned[word]
 
-        new = TOKEN.sub(turn, text)
+        def own_field(found):
+            return FIELDS.get(path.split("/")[1], {}).get(found[0], found[0])
+
+        new = re.sub(r"\w+_lem\b", own_field, TOKEN.sub(turn, text))
         if new != text:
             changed += 1
             if not check:

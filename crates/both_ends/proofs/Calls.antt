@@ -100,7 +100,7 @@ module _ (o : Opening) (s : Session) (sent : List ℕ) (ds : List Delivery) (d :
       end_rest =
           let q = all_requests o in
           g.rests_are ∙ ap (λ (n : ℕ). drop n (served.joined_of es)) (g.count_as ∙ m.end_used)
-          ∙ ap (drop (length q)) (from_client ∙ ap (λ (z : List ℕ). z ++ tail') m.all_sent_lem) ∙ drop-append_seam q tail'
+          ∙ ap (drop (length q)) (from_client ∙ ap (λ (z : List ℕ). z ++ tail') m.requests_gone) ∙ drop-append_seam q tail'
 
       meeting : Meeting o s sent ds e es x out tail tail'
       meeting =

@@ -49,7 +49,7 @@ module _ (o : Opening) (c : Setup) (x : Endpoint) (toClient toEnd tail tail' : L
         opened = ap (λ (k : client.Machine). k.outcome) t;
         bound = ap (λ (k : client.Machine). k.bound) t;
         asks_for = ap (λ (k : End). k.standing) m;
-        all_sent_lem = ap (λ (k : client.Machine). k.sent) t;
+        requests_gone = ap (λ (k : client.Machine). k.sent) t;
         client_used = ap (λ (k : client.Machine). client.used_by k.outcome k.place toClient) t ∙ ap length (sym s);
         end_used = ap (λ (k : End). used_by k.standing k.place toEnd) m;
       }

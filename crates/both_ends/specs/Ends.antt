@@ -82,6 +82,6 @@ pub record Met (o : Opening) (c : Setup) (x : Endpoint) (toClient toEnd : List �
   pub opened : (client.machine o toClient).outcome ≡ outcome.Open
   pub bound : (client.machine o toClient).bound ≡ seen_of (version_of o) x
   pub asks_for : (machine c toEnd).standing ≡ asks (asked (version_of o) (wanted_by o))
-  pub all_sent_lem : (client.machine o toClient).sent ≡ all_requests o
+  pub requests_gone : (client.machine o toClient).sent ≡ all_requests o
   pub client_used : client.used o toClient ≡ length (all_sent (machine c toEnd) x)
   pub end_used : used c toEnd ≡ length (all_requests o)

@@ -74,7 +74,7 @@ module _ (s : List ℕ) (out : List ℕ) (t : LentInTurn s out) where
     -- one that neither waits nor is asked refuses every call with 16
     pub settled_16 : ((standing_at s).state ≡ 0 → ⊥) → ((standing_at s).state ≡ 3 → ⊥) → (status : ℕ) (x : Endpoint)
         → ((lent_deliver s piece out).answer ≡ 16) × ((lent_answer s status x out).answer ≡ 16) × ((lent_end s).answer ≡ 16)
-    settled_16 w a status x = (holds (t.deliver_number piece) (lit< tt) w, holds (t.answer_number_lem status x) (lit< tt) a, holds t.end_number (lit< tt) w)
+    settled_16 w a status x = (holds (t.deliver_number piece) (lit< tt) w, holds (t.answering_number status x) (lit< tt) a, holds t.end_number (lit< tt) w)
 
     -- and a refused call leaves every byte
     pub refused_leaves : (status : ℕ) (x : Endpoint) → ((lent_deliver s piece out).answer ≡ 0 → ⊥) → ((lent_answer s status x out).answer ≡ 0 → ⊥) → ((lent_end s).answer ≡ 0 → ⊥)

@@ -106,7 +106,7 @@ lent_served_turns s y n out l =
     let roomy : 262 ≤ length out = omega arith in
     record {
       deliver_number = λ piece. same_conditions w (drop_last (t.deliver_number piece out) (λ h. omega arith));
-      answer_number_lem = λ status e. same_conditions a (drop_last (t.answer_number_lem status e out) (λ h. omega arith));
+      answering_number = λ status e. same_conditions a (drop_last (t.answering_number status e out) (λ h. omega arith));
       end_number = same_conditions w t.end_number;
       deliver_untouched = λ piece. untouched (deliver x piece out) s out (t.deliver_untouched piece out);
       answer_untouched = λ status e. untouched (answer x status e out) s out (t.answer_untouched status e out);

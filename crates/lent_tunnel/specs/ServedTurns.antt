@@ -29,7 +29,7 @@ stands state number status = record { state = state; number = number; status = s
 pub record LentInTurn (s : List ℕ) (out : List ℕ) : Type 0 where
   -- 16 for bytes and an end unless it waits, and for the caller's answer unless it is asked
   pub deliver_number : (piece : List ℕ) → Answers (lent_deliver s piece out).answer ((((standing_at s).state ≡ 0 → ⊥) ↣ 16) ∷ [])
-  pub answer_number_lem : (status : ℕ) (x : Endpoint) → Answers (lent_answer s status x out).answer ((((standing_at s).state ≡ 3 → ⊥) ↣ 16) ∷ [])
+  pub answering_number : (status : ℕ) (x : Endpoint) → Answers (lent_answer s status x out).answer ((((standing_at s).state ≡ 3 → ⊥) ↣ 16) ∷ [])
   pub end_number : Answers (lent_end s).answer ((((standing_at s).state ≡ 0 → ⊥) ↣ 16) ∷ [])
   -- a refused call leaves every byte of them and of the output
   pub deliver_untouched : (piece : List ℕ) → Untouched (lent_deliver s piece out) s out

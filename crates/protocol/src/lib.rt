@@ -2,16 +2,16 @@
 
 #![tactic(auto)]
 
-// A session's hold: a reply that is not decided has at most so many bytes (01; `undecided-261`).
+// A session's hold: a reply that is not decided has at most so many bytes (01; `undecided_261`).
 pub const HOLD: usize = 261;
 
-// The output that a start and a delivery over v5 must lend (F-4; `startRoom`, `deliveryRoom`).
+// The output that a start and a delivery over v5 must lend (F-4; `start_room`, `delivery_room`).
 pub const OUTPUT_V5: usize = 778;
 
-// The output that a start over v4 must lend (01; `startRoom`).
+// The output that a start over v4 must lend (01; `start_room`).
 pub const START_OUTPUT_V4: usize = 1024;
 
-// The output that a delivery over v4 must lend (01; `deliveryRoom`).
+// The output that a delivery over v4 must lend (01; `delivery_room`).
 pub const DELIVERY_OUTPUT_V4: usize = 262;
 
 // The output that each call of the proxy's end must lend (F-3).
@@ -44,7 +44,7 @@ pub const PROXIES: usize = 8;
 // What the proxies of a route keep of their requests.
 pub const ROUTE_REQUESTS: usize = 8192;
 
-// The longest text of an address and port: a name of 255 bytes, a colon and five digits (F-1; `boundText`).
+// The longest text of an address and port: a name of 255 bytes, a colon and five digits (F-1; `bound_text`).
 pub const ENDPOINT_TEXT: usize = 261;
 
 // The version that a proxy speaks.

@@ -125,7 +125,7 @@ module _ (s : Server) (k : InTurn s) (status : ℕ) (x : Endpoint) (piece out : 
   pub settled_refuses : (n : SocksError) → outcome s ≡ Failed n → RefusedWith 16 (deliver s piece out) s out × RefusedWith 16 (answer s status x out) s out × RefusedWith 16 (end s) s []
   settled_refuses n q = (
     refused_with 16 (deliver s piece out) s out (lit< tt) (((k.deliver_number piece out).refuses 16 (lit< tt)).1 (inl (unwaiting, refl))) (k.deliver_untouched piece out),
-    refused_with 16 (answer s status x out) s out (lit< tt) (((k.answer_number_lem status x out).refuses 16 (lit< tt)).1 (inl (unasked, refl))) (k.answer_untouched status x out),
+    refused_with 16 (answer s status x out) s out (lit< tt) (((k.answering_number status x out).refuses 16 (lit< tt)).1 (inl (unasked, refl))) (k.answer_untouched status x out),
     refused_with 16 (end s) s [] (lit< tt) ((k.end_number.refuses 16 (lit< tt)).1 (inl (unwaiting, refl))) k.end_untouched,
   )
     where
@@ -139,7 +139,7 @@ module _ (s : Server) (k : InTurn s) (status : ℕ) (x : Endpoint) (piece out : 
   pub short_refuses : length out < 262 → (outcome s ≡ Waiting → RefusedWith 1 (deliver s piece out) s out) × (outcome s ≡ Asked → RefusedWith 1 (answer s status x out) s out)
   short_refuses h = (
     λ q. refused_with 1 (deliver s piece out) s out (lit< tt) (((k.deliver_number piece out).refuses 1 (lit< tt)).1 (inr (λ n. n q, inl (h, refl)))) (k.deliver_untouched piece out),
-    λ q. refused_with 1 (answer s status x out) s out (lit< tt) (((k.answer_number_lem status x out).refuses 1 (lit< tt)).1 (inr (λ n. n q, inl (h, refl)))) (k.answer_untouched status x out),
+    λ q. refused_with 1 (answer s status x out) s out (lit< tt) (((k.answering_number status x out).refuses 1 (lit< tt)).1 (inr (λ n. n q, inl (h, refl)))) (k.answer_untouched status x out),
   )
 
   -- one that waits: the end of the stream is taken and comes to 9, and an empty piece, lent enough, is taken and changes nothing

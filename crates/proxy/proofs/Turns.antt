@@ -168,9 +168,9 @@ module _ (s : Server) (status : ℕ) (x : Endpoint) (out : List ℕ) where
   at_untouched (Open v) e q = rw (same_error q)
   at_untouched (Failed d) e q = rw (same_error q)
 
-  answer_number_lem : Answers (answer_number (answer s status x out).answer) (((told s ≡ outcome.Asked → ⊥) ↣ 16) ∷ ((length out < 262) ↣ 1) ∷ [])
+  answering_number : Answers (answer_number (answer s status x out).answer) (((told s ≡ outcome.Asked → ⊥) ↣ 16) ∷ ((length out < 262) ↣ 1) ∷ [])
   unfolding answer
-  answer_number_lem =
+  answering_number =
       rw (at_answers s.stage)
       (checked (not (is_asked (told s))) _ Settled 16 _ _ refl (lit< tt) (unasked_just s.stage)
       (checked (not (leb 262 (length out))) _ ShortOutput 1 Accepted [] refl (lit< tt) (not_long 262 (length out)) all_passed))
@@ -202,7 +202,7 @@ pub in_turn : (s : Server) → InTurn s
 in_turn s =
     record {
       deliver_number = deliver_number s;
-      answer_number_lem = answer_number_lem s;
+      answering_number = answering_number s;
       end_number = end_number s;
       deliver_untouched = deliver_untouched s;
       answer_untouched = answer_untouched s;

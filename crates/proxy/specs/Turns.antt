@@ -59,7 +59,7 @@ Untouched c s out = (e : SocksError) → c.answer ≡ Refused e → c ≡ refusa
 pub record InTurn (s : Server) : Type 0 where
   -- bytes are in turn while it waits, the caller's answer while it is asked
   pub deliver_number : (piece out : List ℕ) → Answers (answer_number (deliver s piece out).answer) (((outcome s ≡ Waiting → ⊥) ↣ 16) ∷ ((length out < 262) ↣ 1) ∷ [])
-  pub answer_number_lem : (status : ℕ) (x : Endpoint) (out : List ℕ)
+  pub answering_number : (status : ℕ) (x : Endpoint) (out : List ℕ)
       → Answers (answer_number (answer s status x out).answer) (((outcome s ≡ Asked → ⊥) ↣ 16) ∷ ((length out < 262) ↣ 1) ∷ [])
   pub end_number : Answers (answer_number (end s).answer) (((outcome s ≡ Waiting → ⊥) ↣ 16) ∷ [])
   pub deliver_untouched : (piece out : List ℕ) → Untouched (deliver s piece out) s out

@@ -98,14 +98,14 @@ refused line n e =
           λ f.
           record {
             version = refl;
-            local_dns_lem = refl;
-            proxy_auth_lem = refl;
+            local_dns = refl;
+            proxy_auth = refl;
             user = refl;
-            user_len_lem = refl;
+            user_len = refl;
             password = refl;
-            password_len_lem = refl;
-            host_at_lem = refl;
-            host_len_lem = refl;
+            password_len = refl;
+            host_at = refl;
+            host_len = refl;
             port = refl;
           };
       no_place = λ q. let z : ◌≡◌ {A = ℕ} 0 1 = cc in absurd (omega arith);

@@ -33,14 +33,14 @@ Unlawful line = (v : Value) → Line line v → ⊥
 -- with 24 all but its place is empty
 pub record Empty (r : ProxyLine) : Type 0 where
   pub version : r.version ≡ V4
-  pub local_dns_lem : r.local_dns ≡ false
-  pub proxy_auth_lem : r.proxy_auth ≡ false
+  pub local_dns : r.local_dns ≡ false
+  pub proxy_auth : r.proxy_auth ≡ false
   pub user : r.user ≡ replicate 255 0
-  pub user_len_lem : r.user_len ≡ 0
+  pub user_len : r.user_len ≡ 0
   pub password : r.password ≡ replicate 255 0
-  pub password_len_lem : r.password_len ≡ 0
-  pub host_at_lem : r.host_at ≡ 0
-  pub host_len_lem : r.host_len ≡ 0
+  pub password_len : r.password_len ≡ 0
+  pub host_at : r.host_at ≡ 0
+  pub host_len : r.host_len ≡ 0
   pub port : r.port ≡ 0
 
 -- behind user and password their arrays have zeros, and both are empty where none are given

@@ -218,7 +218,7 @@ module _ (ls : List (List ℕ)) (buffer : List ℕ) (c : Call) (p : ReadsRoute l
   pub refused_leaves : (e : SocksError) → c.lines.answer ≡ Refused e → (c.buffer ≡ buffer) × (c.lines.count ≡ 0) × (c.lines.proxies ≡ replicate 8 no_proxy)
   refused_leaves e q =
       let n : c.lines.answer ≡ Accepted → ⊥ = λ a. let z : ◌≡◌ {A = ℕ} 0 1 = cc in omega arith in
-      (p.unwritten n, (p.no_proxy_lem n).0, (p.no_proxy_lem n).1)
+      (p.unwritten n, (p.none_given n).0, (p.none_given n).1)
 
   pub no_line : c.lines.answer ≡ Accepted → (c.lines.line ≡ 0) × (c.lines.place ≡ 0)
   no_line q = p.none_told (λ e. let z : ◌≡◌ {A = ℕ} 0 24 = sym (ap answer_number q) ∙ e in omega arith)

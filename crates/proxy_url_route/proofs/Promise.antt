@@ -88,7 +88,7 @@ module _ (ls : List (List ℕ)) (buffer : List ℕ) where
         none_told = λ q. (refl, refl);
         accepted = λ q. let z : ◌≡◌ {A = ℕ} 0 1 = cc in absurd (omega arith);
         unwritten = λ q. refl;
-        no_proxy_lem = λ q. (refl, refl);
+        none_given = λ q. (refl, refl);
         long = refl;
       }
     where
@@ -109,7 +109,7 @@ module _ (ls : List (List ℕ)) (buffer : List ℕ) where
           none_told = λ q. absurd (q refl);
           accepted = λ q. let z : ◌≡◌ {A = ℕ} 0 1 = cc in absurd (omega arith);
           unwritten = λ q. refl;
-          no_proxy_lem = λ q. (refl, refl);
+          none_given = λ q. (refl, refl);
           long = refl;
         }
 
@@ -152,7 +152,7 @@ module _ (ls : List (List ℕ)) (buffer : List ℕ) where
             none_told = λ q. (refl, refl);
             accepted = λ q. is_route;
             unwritten = λ q. absurd (q refl);
-            no_proxy_lem = λ q. absurd (q refl);
+            none_given = λ q. absurd (q refl);
             long = length_written 0 ls buffer size few_lines ∙ sym size;
           }
 

@@ -90,7 +90,7 @@ pub record ReadsRoute (ls : List (List ℕ)) (buffer : List ℕ) (c : Call) : Ty
   pub accepted : c.lines.answer ≡ Accepted → IsRoute ls buffer c
   -- refused, nothing is written, and no proxy is given
   pub unwritten : (c.lines.answer ≡ Accepted → ⊥) → c.buffer ≡ buffer
-  pub no_proxy_lem : (c.lines.answer ≡ Accepted → ⊥) → (c.lines.count ≡ 0) × (c.lines.proxies ≡ replicate 8 no_proxy)
+  pub none_given : (c.lines.answer ≡ Accepted → ⊥) → (c.lines.count ≡ 0) × (c.lines.proxies ≡ replicate 8 no_proxy)
   -- the buffer keeps its length
   pub long : length c.buffer ≡ length buffer
 

@@ -149,7 +149,7 @@ module _ (r : RawServer) (out : List ℕ) (t : ends.RawInTurn r out) (piece : Li
   -- one that neither waits nor is asked refuses every call with 16
   pub end_settled_16 : ((raw_standing r).state ≡ 0 → ⊥) → ((raw_standing r).state ≡ 3 → ⊥) → (status : ℕ) (x : Endpoint)
       → (((served.receiver).deliver r piece out).answer ≡ 16) × ((raw_answer r status x out).answer ≡ 16) × ((ends.raw_end r).answer ≡ 16)
-  end_settled_16 w a status x = (holds (t.deliver_number piece) (lit< tt) w, holds (t.answer_number_lem status x) (lit< tt) a, holds t.end_number (lit< tt) w)
+  end_settled_16 w a status x = (holds (t.deliver_number piece) (lit< tt) w, holds (t.answering_number status x) (lit< tt) a, holds t.end_number (lit< tt) w)
 
   pub end_refused_leaves : (status : ℕ) (x : Endpoint) → (((served.receiver).deliver r piece out).answer ≡ 0 → ⊥) → ((raw_answer r status x out).answer ≡ 0 → ⊥) → ((ends.raw_end r).answer ≡ 0 → ⊥)
       → (((served.receiver).deliver r piece out).output ≡ out) × ((raw_answer r status x out).output ≡ out) × ((ends.raw_end r).sent ≡ 0)

@@ -81,7 +81,7 @@ raw_served_turns r out l =
     let roomy : 262 ≤ length out = omega arith in
     record {
       deliver_number = λ piece. same_conditions w (drop_last (t.deliver_number piece out) (λ h. omega arith));
-      answer_number_lem = λ status x. same_conditions a (drop_last (t.answer_number_lem status x out) (λ h. omega arith));
+      answering_number = λ status x. same_conditions a (drop_last (t.answering_number status x out) (λ h. omega arith));
       end_number = same_conditions w t.end_number;
       deliver_untouched = λ piece. untouched (deliver s piece out) r out (t.deliver_untouched piece out);
       answer_untouched = λ status x. untouched (answer s status x out) r out (t.answer_untouched status x out);

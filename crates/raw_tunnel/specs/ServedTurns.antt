@@ -38,7 +38,7 @@ Untouched a r out = (a.answer ≡ 0 → ⊥) → a ≡ record { answer = a.answe
 pub record RawInTurn (r : RawServer) (out : List ℕ) : Type 0 where
   -- 16 for bytes and an end unless it waits, and for the caller's answer unless it is asked
   pub deliver_number : (piece : List ℕ) → Answers (returned (deliver (server_of r) piece out)).answer ((((raw_standing r).state ≡ 0 → ⊥) ↣ 16) ∷ [])
-  pub answer_number_lem : (status : ℕ) (x : Endpoint) → Answers (raw_answer r status x out).answer ((((raw_standing r).state ≡ 3 → ⊥) ↣ 16) ∷ [])
+  pub answering_number : (status : ℕ) (x : Endpoint) → Answers (raw_answer r status x out).answer ((((raw_standing r).state ≡ 3 → ⊥) ↣ 16) ∷ [])
   pub end_number : Answers (raw_end r).answer ((((raw_standing r).state ≡ 0 → ⊥) ↣ 16) ∷ [])
   pub deliver_untouched : (piece : List ℕ) → Untouched (returned (deliver (server_of r) piece out)) r out
   pub answer_untouched : (status : ℕ) (x : Endpoint) → Untouched (raw_answer r status x out) r out
