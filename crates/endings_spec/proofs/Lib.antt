@@ -1,4 +1,5 @@
 pub mod Order
+pub mod ReplyWords
 pub mod Words
 pub mod Through
 pub mod Table

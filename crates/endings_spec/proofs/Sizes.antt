@@ -14,7 +14,8 @@ use Rattle.protocol.specs.Machine.{machine}
 use Rattle.endings_spec.specs.declared.OutcomeStatus.{OutcomeStatus}
 use Rattle.endings_spec.specs.RouteEndings.{behind, begun}
 use Rattle.endings_spec.specs.Streams.{is_of, stream_for, stream_at}
-use Rattle.endings_spec.proofs.Words.{test, good_for, ends_for, size_of, GoodWord, good_word, EndWord, end_word}
+use Rattle.endings_spec.proofs.ReplyWords.{good_for, ends_for}
+use Rattle.endings_spec.proofs.Words.{test, size_of, GoodWord, good_word, EndWord, end_word}
 use Rattle.endings_spec.proofs.Through.{or_else, then, through}
 use Rattle.endings_spec.proofs.Table.{ends_at, stream_step}
 use Rattle.endings_spec.proofs.Streams.{route_stream_wanted}

@@ -9,7 +9,8 @@ use Rattle.protocol.specs.declared.Reply.{Reply}
 use Rattle.protocol.specs.Opening.{Opening, v5, v4, no_auth, user_pass, replies}
 use Rattle.endings_spec.specs.declared.OutcomeStatus.{OutcomeStatus}
 use Rattle.endings_spec.specs.Streams.{kind_of, open_stream, is_of, if, stream_of, stream_for, last_for, joined, stream_at}
-use Rattle.endings_spec.proofs.Words.{test, good_for, bad_for, ends_for}
+use Rattle.endings_spec.proofs.ReplyWords.{good_for, bad_for, ends_for}
+use Rattle.endings_spec.proofs.Words.{test}
 use Rattle.endings_spec.proofs.Through.{then, through, open_ends}
 
 -- ---- an opening

@@ -21,7 +21,8 @@ use Rattle.endings_spec.specs.declared.OutcomeStatus.{OutcomeStatus}
 use Rattle.endings_spec.specs.Endings.{ending_of}
 use Rattle.endings_spec.specs.Streams.{is_of, if}
 use Rattle.endings_spec.proofs.Order.{AtMost, at_most_append, at_most_longer, at_most_nil, Best}
-use Rattle.endings_spec.proofs.Words.{test, good_for, bad_for, ends_for, First, size_of, GoodWord, good_word, is_plain, undecided_nil, HereOr, Here, EndWord, end_word, first_good, first_end}
+use Rattle.endings_spec.proofs.ReplyWords.{good_for, bad_for, ends_for}
+use Rattle.endings_spec.proofs.Words.{test, First, size_of, GoodWord, good_word, is_plain, undecided_nil, HereOr, Here, EndWord, end_word, first_good, first_end}
 
 -- ---- replies in turn
 

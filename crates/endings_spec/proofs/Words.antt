@@ -27,41 +27,13 @@ use Rattle.protocol.specs.Replies.{upon, negotiation_verdict, authentication_ver
 use Rattle.protocol.proofs.Tests.{both}
 use Rattle.endings_spec.specs.declared.OutcomeStatus.{OutcomeStatus}
 use Rattle.endings_spec.specs.Endings.{ending_of}
-use Rattle.endings_spec.specs.Streams.{connect_reply, v4_reply, is_of, if}
+use Rattle.endings_spec.specs.Streams.{connect_reply, v4_reply, is_of}
 use Rattle.endings_spec.proofs.Order.{AtMost, at_most_append, at_most_nil, at_most_take}
+use Rattle.endings_spec.proofs.ReplyWords.{good_for, other_method, bad_for, ends_for}
 
 pub test : {A : Type 0} (P : A → Type 0) (b : Bool) {x y : A} → (b ≡ true → P x) → (b ≡ false → P y) → P (cond b x y)
 test P true f g = f refl
 test P false f g = g refl
-
--- ---- the words of a reply
-
--- a good one
-abbrev pub good_for : Reply → Option (List ℕ)
-good_for (NegotiationRes NoAuth) = some (0x05 ∷ 0x00 ∷ [])
-good_for (NegotiationRes UserPass) = some (0x05 ∷ 0x02 ∷ [])
-good_for (NegotiationRes NoneAcceptable) = none
-good_for AuthenticationRes = some (0x01 ∷ 0x00 ∷ [])
-good_for ProxyRes = some (connect_reply 0x00)
-good_for Response = some (v4_reply 0x5A)
-
--- a method that was not offered
-abbrev other_method : AuthMethod → ℕ
-other_method NoAuth = 0x02
-other_method UserPass = 0x00
-other_method NoneAcceptable = 0x00
-
--- a bad one, by its failure's number and status
-unfoldable pub bad_for : OutcomeStatus → Reply → Option (List ℕ)
-bad_for w (NegotiationRes sent) =
-    if (is_of w 10 0 0) (0x00 ∷ 0x00 ∷ []) (if (is_of w 12 0 0) (0x05 ∷ 0xFF ∷ []) (if (is_of w 13 0 0) (0x05 ∷ other_method sent ∷ []) none))
-bad_for w AuthenticationRes = if (is_of w 10 0 0) (0x00 ∷ 0x00 ∷ []) (if (is_of w 14 0 0) (0x01 ∷ 0x01 ∷ []) none)
-bad_for w ProxyRes = if (is_of w 10 0 0) (0x00 ∷ 0x00 ∷ 0x00 ∷ []) (if (is_of w 15 1 8) (connect_reply w.status) none)
-bad_for w Response = if (is_of w 10 0 0) (v4_reply 0x00) (if (is_of w 15 91 93) (v4_reply w.status) none)
-
--- at which it ends so: nothing comes, or a bad one
-unfoldable pub ends_for : OutcomeStatus → Reply → Option (List ℕ)
-ends_for w e = if (is_of w 9 0 0) [] (bad_for w e)
 
 -- ---- no bytes that are decided so go before the word
 
@@ -304,7 +276,7 @@ bad_word w ProxyRes =
     let e = ProxyRes in
     test (BadWord w e) (is_of w 10 0 0)
     (plain w e 10 Parsing (0 ∷ 0 ∷ 0 ∷ []) (decided e Parsing (0 ∷ 0 ∷ 0 ∷ []) (omega arith) refl (lit≤ tt)) refl)
-    (λ a. test (BadWord w e) (is_of w 15 1 8)
+    (λ a. test (BadWord w e) _
     (λ t. let i = is_of_lem w 15 1 8 t in
     let s = w.status in
     command w e (connect_reply s) (decided e (Command s) (connect_reply s) (omega (arith, i.most)) (connect_fails s i.least i.most) (le_refl 8)) i.number)
