@@ -1,18 +1,18 @@
 -- F-10's promise: each number exactly when its condition holds and none before it, and alike exactly when both directions join to the same bytes.
 use Prim.Native.Nat.{ℕ, ◌<◌}
 use native.Mathlib.Omega.{arith}
-use mathlib.Core.Path.{◌≡◌, refl, sym, ◌∙◌}
+use mathlib.Core.Path.{◌≡◌, refl}
 use mathlib.Core.Logic.{◌↔◌, ◌⊎◌, inl, inr}
 use mathlib.Core.Bool.{Bool, true, false, cond, false≢true}
-use mathlib.Core.Option.{Option, none, some}
-use mathlib.Core.List.{List, [], ◌∷◌, ◌++◌}
+use mathlib.Core.Option.{Option}
+use mathlib.Core.List.{List, [], ◌∷◌}
 use lib.Dec.{lit<}
 use Rattle.protocol.specs.declared.Answer.{Answer}
 use Rattle.protocol.specs.declared.Answer.TheVariants.{Accepted, Refused}
 use Rattle.protocol.specs.declared.SocksError.TheVariants.{CaptureCut, CaptureNotAccepted}
 use Rattle.protocol.specs.Bytes.{Bytes}
 use Rattle.protocol.specs.Numbers.{number, answer_number}
-use Rattle.protocol.specs.Opening.{V5, V4, Condition, ◌↣◌, First, Answers, refuse, check5 as prepares5, check4 as prepares4, conditions5, conditions4, None, Opening, opening5, opening4, Limits, Sixteen}
+use Rattle.protocol.specs.Opening.{Condition, ◌↣◌, First, Answers, check5 as prepares5, check4 as prepares4, conditions5, conditions4, None, Opening, opening5, opening4, Limits}
 use Rattle.protocol.proofs.Limits.{limits5, limits4, number_is}
 use Rattle.protocol.proofs.Openings.{all_passed, checked, check5_just, check4_just}
 use Rattle.protocol.proofs.Claims.{none_then, none_both, answers_behind, answers_before}
@@ -21,7 +21,6 @@ use Rattle.captures_spec.specs.Captures.{received, Entry, Row, RunsPast, Accepte
 use Rattle.captures_spec.specs.Reading.{row_of, alike}
 use Rattle.captures_spec.proofs.Rows.{Reads, is_row, is_past, reads, one_row, never_both}
 use Rattle.captures_spec.proofs.Alike.{row_bytes, alike_just}
-use Rattle.captures.specs.declared.Compared.{Compared}
 use Rattle.captures.specs.Walk.{held}
 use Rattle.captures.specs.Calls as calls
 use Rattle.captures.specs.Calls.{held_by, held_both, compared, check5, check4, compare5, compare4}

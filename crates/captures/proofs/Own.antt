@@ -4,7 +4,6 @@ use native.Mathlib.Nat.{le_refl}
 use native.Mathlib.Omega.{arith}
 use mathlib.Core.Path.{◌≡◌, refl, ap, sym, subst, ◌∙◌}
 use mathlib.Core.Bool.{true, cond}
-use mathlib.Core.Option.{some}
 use mathlib.Core.List.{List, [], ◌∷◌, ◌++◌, append_assoc, append-nil}
 use lib.ListN.{length, take, drop, length-append, length-drop}
 use lib.Seq.{take-append_seam, drop-append_seam, drop-drop}
@@ -13,7 +12,7 @@ use Rattle.protocol.specs.declared.Answer as code
 use Rattle.protocol.specs.declared.Answer.TheVariants.{Accepted, Refused}
 use Rattle.protocol.specs.declared.Outcome.TheVariants.{Open}
 use Rattle.protocol.specs.Numbers.{answer_number}
-use Rattle.protocol.specs.Opening.{V5, V4, check5 as prepares5, check4 as prepares4, Opening, opening5, opening4, start_room, delivery_room, Limits, Sixteen}
+use Rattle.protocol.specs.Opening.{check5 as prepares5, check4 as prepares4, Opening, opening5, opening4, start_room, delivery_room, Limits}
 use Rattle.protocol.specs.Machine.{machine, used}
 use Rattle.protocol.specs.Client.{kept}
 use Rattle.protocol.proofs.Openings.{clash}
@@ -27,12 +26,12 @@ use Rattle.socks.proofs.InTwo.{start_begins}
 use Rattle.socks.proofs.Tunnels.{Begun}
 use Rattle.socks.proofs.Openings.{begins_stands, stands_asks}
 use Rattle.talk.specs.Tunnel.{Receiver, Delivery, answer_to, lends, after, rests}
-use Rattle.captures_spec.specs.Captures.{Direction, sent, received, Entry, entry, Row}
+use Rattle.captures_spec.specs.Captures.{sent, received, Entry}
 use Rattle.captures_spec.proofs.Due.{grown, sent_grows, sent_more}
 use Rattle.captures_spec.proofs.Entries.{Left, left_none, left_received, left_sent, accepted_just}
 use Rattle.captures_spec.proofs.Rows.{row_is}
 use Rattle.captures_spec.proofs.Alike.{row_bytes}
-use Rattle.captures.specs.Calls.{held_by, checked, check5, check4}
+use Rattle.captures.specs.Calls.{checked, check5, check4}
 use Rattle.captures.specs.Own as O
 use Rattle.captures.specs.Own.{Cut, sent_in, Recorded, OwnAccepted, Own5, Own4}
 use Rattle.captures.proofs.Walked.{At, took, outcome_at, begun_behind, held_just}

@@ -3,11 +3,11 @@ use Prim.Native.Nat.{ℕ, ◌+◌, ◌-◌, ◌≤◌}
 use native.Mathlib.Omega.{arith}
 use mathlib.Core.Path.{◌≡◌, refl, ap, sym, subst, ◌∙◌}
 use mathlib.Core.Logic.{◌↔◌}
-use mathlib.Core.Bool.{Bool, true, false, cond, ◌&&◌, false≢true, true≢false}
+use mathlib.Core.Bool.{Bool, true, false, cond, ◌&&◌, false≢true}
 use mathlib.Core.List.{List, [], ◌∷◌, ◌++◌}
 use lib.ListN.{length, take, drop, replicate, length-append, length-take, length-drop, length-replicate}
 use lib.Dec.{leb, eqb, lit≤}
-use borrow.Author.Tests.{le-leb, eq-eqb, ne_eqb, eqb-true, eqb-false}
+use borrow.Author.Tests.{le-leb, eq-eqb, eqb-true, eqb-false}
 use Rattle.protocol.proofs.Bytes.{same_just, both_true}
 use Rattle.protocol.specs.declared.Answer.TheVariants.{Accepted}
 use Rattle.protocol.specs.declared.Outcome.{Outcome}
@@ -22,13 +22,12 @@ use Rattle.protocol.proofs.Limits.{sent_within}
 use Rattle.client_stages.specs.due.Stages.{SideSession}
 use Rattle.client_session.specs.declared.Session.{Session}
 use Rattle.client_session.specs.Session.{outcome}
-use Rattle.client_session.specs.Calls.{Call, prepared_for, start, deliver}
+use Rattle.client_session.specs.Calls.{Call, prepared_for, start}
 use Rattle.socks.specs.Demand3.{receiver}
-use Rattle.socks.specs.InTwo.{begins}
 use Rattle.socks.proofs.InTwo.{start_begins}
 use Rattle.socks.proofs.Tunnels.{Stands, step, Begun}
 use Rattle.socks.proofs.Openings.{begins_stands}
-use Rattle.talk.specs.Talk.{FedOf, feed, onward, held_by, reached}
+use Rattle.talk.specs.Talk.{FedOf, feed, onward, reached}
 use Rattle.talk.specs.Tunnel as tunnel
 use Rattle.talk.specs.Tunnel.{Delivery, lends, answer_to}
 use Rattle.talk.proofs.Feed.{feed_append, feed_within, feed_ready, feed_still, onward_within}

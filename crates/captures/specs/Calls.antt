@@ -1,5 +1,5 @@
 -- F-10: what each call answers, for any arguments.
-use Rattle.std.specs.Prelude.{Bool, true, false, cond, List, ℕ}
+use Rattle.std.specs.Prelude.{false, cond, List, ℕ}
 use Rattle.std.proofs.Math.Option.{Option, none, some}
 use Rattle.protocol.specs.declared.SocksError.{SocksError}
 use Rattle.protocol.specs.declared.SocksError.TheVariants.{CaptureCut, CaptureNotAccepted}

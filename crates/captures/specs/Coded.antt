@@ -1,5 +1,5 @@
 -- F-10 as the code has it: behind some entries, and at a place in a capture.
-use Rattle.std.specs.Prelude.{ℕ, ◌+◌, ◌≤◌, ◌≡◌, Bool, true, false, cond, ◌&&◌, List, [], ◌++◌, length, take, drop}
+use Rattle.std.specs.Prelude.{ℕ, ◌+◌, ◌≤◌, ◌≡◌, Bool, true, false, ◌&&◌, List, ◌++◌, length, take, drop}
 use Rattle.std.proofs.Math.Option.{some}
 use Rattle.client_session.specs.declared.Session.{Session}
 use Rattle.captures_spec.specs.Captures.{Direction, sent, received, Entry, joined}

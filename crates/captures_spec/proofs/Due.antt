@@ -12,7 +12,7 @@ use Rattle.protocol.specs.Bytes.{Bytes}
 use Rattle.protocol.specs.Bound.{Endpoint}
 use Rattle.protocol.specs.Opening.{Opening}
 use Rattle.protocol.specs.Machine.{Machine, machine, used}
-use Rattle.protocol.specs.Grammar.{Sequence, JustOne}
+use Rattle.protocol.specs.Grammar.{Sequence}
 use Rattle.protocol.specs.Client.{kept, begun, side}
 use Rattle.protocol.proofs.Client.{client_lawful, begun_shaped, machine_feed, used_feed}
 use Rattle.protocol.proofs.Sequences.{open_just, open_one}

@@ -1,19 +1,18 @@
 -- F-10: an accepted capture, entry by entry: what is left of it behind a beginning.
 use Prim.Native.Nat.{ℕ, ◌+◌, ◌≤◌}
-use native.Mathlib.Nat.{add-zero, add_assoc}
 use native.Mathlib.Omega.{arith}
-use mathlib.Core.Path.{◌≡◌, refl, ap, sym, subst, ◌∙◌}
+use mathlib.Core.Path.{◌≡◌, ap, sym, ◌∙◌}
 use mathlib.Core.Logic.{◌↔◌}
 use mathlib.Core.List.{List, [], ◌∷◌, ◌++◌, append_assoc, append-nil}
 use lib.ListN.{length, take, drop, length-append, length-drop, length-take, take-append-drop}
-use lib.Seq.{take-append_seam, drop-append_seam, take-append-le, drop-append-le, drop-drop, length-take-le}
+use lib.Seq.{take-append_seam, drop-append_seam, take-append-le, drop-append-le, drop-drop}
 use Rattle.protocol.specs.declared.Outcome.TheVariants.{Open}
 use Rattle.protocol.specs.Bytes.{Bytes}
 use Rattle.protocol.specs.Opening.{Opening}
 use Rattle.protocol.specs.Machine.{machine, used}
 use Rattle.captures_spec.specs.Captures as C
-use Rattle.captures_spec.specs.Captures.{Direction, sent, received, Entry, entry, joined, Beginning, Accepted}
-use Rattle.captures_spec.proofs.Due.{grown, sent_grows, sent_more, read_before, replied_just}
+use Rattle.captures_spec.specs.Captures.{sent, received, Entry, entry, joined, Beginning, Accepted}
+use Rattle.captures_spec.proofs.Due.{grown, sent_grows, sent_more, replied_just}
 
 -- what is left behind a beginning that received bytes and sent so many: the entries open the session with nothing unread, send all that is left, and
 -- none ahead

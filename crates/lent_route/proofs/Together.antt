@@ -29,7 +29,7 @@ use Rattle.lent_session.specs.Fits.{Fits}
 use Rattle.route_delivery.specs.declared.Hop.{Hop}
 use Rattle.route_delivery.specs.Relay.{no_hop, goes_at}
 use Rattle.route_spec.specs.Route as routing
-use Rattle.route_spec.specs.Route.{Proxy, host_of, port_of, Asked, over5, over4, asked_by, asked_of, asked, openings, opening_for, room_for, check_for, unless_refused, check_in_turn, check}
+use Rattle.route_spec.specs.Route.{Proxy, host_of, port_of, Asked, asked_by, asked_of, asked, openings, opening_for, check_for, unless_refused, check_in_turn, check}
 use Rattle.route_spec.proofs.Asked.{asked_each}
 use Rattle.route_spec.proofs.Rooms.{EachLimits}
 use Rattle.route_session.specs.plan.Plan.{hops_for, bytes_for}

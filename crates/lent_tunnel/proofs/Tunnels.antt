@@ -37,7 +37,7 @@ use Rattle.lent_session.specs.State.{session_at, state_of}
 use Rattle.lent_session.specs.Given.{given5, given4}
 use Rattle.lent_session.specs.Calls.{left_by, address_of, bound_at, wiped}
 use Rattle.lent_tunnel.specs.Demand3 as lent
-use Rattle.lent_tunnel.specs.Demand3.{returned, outcome_at, attempts_at, Lent, LentDemand3, LentTunnelled, LentTunnelled5, LentTunnelled4}
+use Rattle.lent_tunnel.specs.Demand3.{returned, outcome_at, Lent, LentDemand3, LentTunnelled, LentTunnelled5, LentTunnelled4}
 use Rattle.lent_tunnel.proofs.Kept.{Whole, start_whole, deliver_whole, Written, means, left}
 use Rattle.lent_tunnel.proofs.Carried.{Carried, carries, lends_as}
 use Rattle.lent_tunnel.proofs.Openings.{wipes, whole5, whole4}

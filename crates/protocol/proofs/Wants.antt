@@ -1,21 +1,20 @@
 -- The shortest stream that completes a talk, or ends it: by its first message and what follows; behind bytes that came, by what is held.
-use Prim.Native.Nat.{ℕ, suc, ◌+◌, ◌≤◌, ◌<◌}
+use Prim.Native.Nat.{ℕ, ◌+◌, ◌≤◌}
 use native.Mathlib.Nat.{add-zero}
 use native.Mathlib.Omega.{arith}
-use mathlib.Core.Path.{◌≡◌, refl, ap, sym, subst, ◌∙◌}
+use mathlib.Core.Path.{◌≡◌, refl, ap, sym, ◌∙◌}
 use mathlib.Core.Bool.{Bool, true, false, cond, true≢false}
 use mathlib.Core.List.{List, [], ◌∷◌, ◌++◌, append_assoc, append-nil}
 use lib.ListN.{length, take, drop, length-append, take-append-drop}
-use lib.Seq.{length-take-le}
 use lib.Dec.{leb}
 use borrow.Author.Tests.{leb-true, leb-false, le-leb}
 use Rattle.protocol.specs.Bytes.{Bytes}
 use Rattle.protocol.specs.Wants.{Some, Least, Wanted}
 use Rattle.protocol.proofs.Bytes.{bytes_join, bytes_left, bytes_right}
 use Rattle.talk.specs.Decision.{Verdict, Decision, undecided, decided, good, bad}
-use Rattle.talk.specs.Talk.{done, failed, stop, send, await, Side, Session, waiting, ended, TalkOf, SessionOf, FedOf, deciding, feed, onward, is_over, reached}
+use Rattle.talk.specs.Talk.{done, stop, send, await, Side, waiting, ended, TalkOf, SessionOf, FedOf, deciding, feed, onward, is_over, reached}
 use Rattle.talk.specs.Lawful.{Lawful, Shaped, Good, Accepts}
-use Rattle.talk.proofs.Feed.{Ready, Still, and_then, feed_append, feed_exact, stays_of, within_of}
+use Rattle.talk.proofs.Feed.{Ready, Still, and_then, feed_append, feed_exact, stays_of}
 use Rattle.talk.proofs.Deliveries.{Lent, lent, unlent}
 use Rattle.talk.specs.Tunnel.{Receiver, Delivery, lends, answer_to, receiver}
 use Rattle.talk.specs.Follow.{Alike}

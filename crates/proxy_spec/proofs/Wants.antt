@@ -29,7 +29,7 @@ use Rattle.proxy_spec.proofs.Shortest.{shortest}
 use Rattle.talk.specs.Decision.{Decision, undecided, decided, good, bad}
 use Rattle.talk.specs.Talk.{done, failed, stop, send, await, waiting, ended, FedOf, feed, onward, is_over, reached, deciding}
 use Rattle.talk.specs.Lawful.{Accepts}
-use Rattle.talk.proofs.Feed.{and_then, feed_append, feed_exact, feed_ready}
+use Rattle.talk.proofs.Feed.{feed_append, feed_exact, feed_ready}
 use Rattle.talk.proofs.Accept.{opens, parsed}
 
 least_as : {P Q : List ℕ → Type 0} {n : ℕ} → ((bs : List ℕ) → P bs → Q bs) → ((bs : List ℕ) → Q bs → P bs) → Least P n → Least Q n

@@ -5,7 +5,7 @@ use mathlib.Core.Path.{◌≡◌}
 use mathlib.Core.List.{List, [], ◌∷◌, ◌++◌}
 use lib.ListN.{length, get_or, length-append}
 use Rattle.protocol.specs.AddressText as G
-use Rattle.protocol.specs.AddressText.{Hex, digit, upper, lower, Number, Dotted, Group, Groups, Tail, Left, Right, Ipv6}
+use Rattle.protocol.specs.AddressText.{Hex, digit, upper, lower, Dotted, Group, Groups, Tail, Left, Right, Ipv6}
 use Rattle.protocol.proofs.AddressIpv6.{dotted_length, number_short, number_group}
 
 -- ---- groups are a tail

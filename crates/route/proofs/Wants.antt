@@ -19,8 +19,8 @@ use Rattle.protocol.specs.Bound.{Endpoint, unbound}
 use Rattle.protocol.specs.Opening.{no_auth, user_pass, Opening, v5, v4, first_reply}
 use Rattle.protocol.specs.Replies.{proxy_at, decide}
 use Rattle.protocol.specs.Machine.{Machine}
-use Rattle.protocol.specs.Client.{Kept, talk_at, told, client, kept, begun, side, outcome_of}
-use Rattle.protocol.specs.Wants.{Some, Least}
+use Rattle.protocol.specs.Client.{Kept, talk_at, client, kept, begun, side, outcome_of}
+use Rattle.protocol.specs.Wants.{Least}
 use Rattle.protocol.proofs.Bytes.{bytes_join, bytes_left, bytes_right, joined_bytes}
 use Rattle.protocol.proofs.Client.{client_lawful}
 use Rattle.protocol.proofs.Wants.{least_same, further, Rest, Ends, Lacks, least_done, WantsIn, wanted, waits_undecided, uses_all}
@@ -34,20 +34,20 @@ use Rattle.client_session.specs.Session.{view, held_bytes}
 use Rattle.route_delivery.specs.declared.Hop as relaying
 use Rattle.route_delivery.specs.Relay.{hop_at}
 use Rattle.route_session.specs.declared.calls.Route.{Route}
-use Rattle.route_session.specs.calls.Calls.{behind_in, session_in, outcome, shortest_behind, wants, opening, deliver}
+use Rattle.route_session.specs.calls.Calls.{behind_in, session_in, outcome, shortest_behind, wants, deliver}
 use Rattle.route.specs.Routed.{receiver, tunnel_of, joined_of}
 use Rattle.route.specs.Wants.{AnyWants, WantedInTurn, Reads, shortest_of, shortest_row, ReadThrough}
 use Rattle.route.proofs.Refusals.{opened_some}
 use Rattle.route.proofs.Tunnels.{Stands, step, Begun, followed, stands_outcome}
 use Rattle.route.proofs.Openings.{opened_begun}
-use Rattle.route.proofs.Relays.{kept_at, ahead_of, stands_at}
+use Rattle.route.proofs.Relays.{ahead_of, stands_at}
 use Rattle.route_spec.specs.Hops.{Hop, hop_of, RouteStage, at, on_through, route_reads, route_at, route_side, RouteTalk, route_talk, RouteSession, RouteFed, outcome_in}
 use Rattle.route_spec.specs.Route.{room_for, openings, machines, used_in_turn, Sequences}
 use Rattle.route_spec.proofs.Lawful.{route_lawful, at_feed, through_none, through_shaped}
 use Rattle.route_spec.proofs.Steps.{through_begins}
 use Rattle.route_spec.proofs.Sequences.{in_turn_just, in_turn_one, row_length}
 use Rattle.route_spec.proofs.Machines.{begun_through, machines_feed, used_in_turn_lem}
-use Rattle.talk.specs.Talk.{done, failed, stop, send, Session, waiting, ended, feed, is_over, reached}
+use Rattle.talk.specs.Talk.{done, failed, waiting, ended, feed, is_over, reached}
 use Rattle.talk.specs.Lawful.{Accepts}
 use Rattle.talk.specs.Tunnel as tunnels
 use Rattle.talk.specs.Tunnel.{Delivery, answer_to}

@@ -37,7 +37,7 @@ use Rattle.socks.specs.Demand3.{tunnel_of, joined_of, Demand3}
 use Rattle.socks.specs.Turns.{Tells, no_address, Preparing, InTurn, Asking}
 use Rattle.socks.specs.Attempts.{receiver_of, accepted_in, held_of, Effort}
 use Rattle.socks.specs.InTwo.{in_two, InTwo}
-use Rattle.socks.specs.Wants.{AnyWants, LeavesOne, Reads}
+use Rattle.socks.specs.Wants.{AnyWants, Reads}
 use Rattle.talk.specs.Tunnel.{Delivery, rest, after, joined, Tunnel}
 use Rattle.talk.specs.Lawful.{Begins}
 

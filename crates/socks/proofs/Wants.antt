@@ -11,11 +11,10 @@ use Rattle.protocol.specs.declared.Answer.TheVariants.{Accepted, Refused}
 use Rattle.protocol.specs.declared.Bound.{Bound}
 use Rattle.protocol.specs.declared.Outcome.TheVariants.{Waiting, Open}
 use Rattle.protocol.specs.Bytes.{Bytes}
-use Rattle.protocol.specs.Bound.{Endpoint}
 use Rattle.protocol.specs.Opening.{V5, V4, check5, check4, Opening, opening5, opening4, delivery_room, Limits, Sixteen}
 use Rattle.protocol.specs.Replies.{decide}
 use Rattle.protocol.specs.Client as client
-use Rattle.protocol.specs.Wants.{Some, Completes, Settles, WantedBy}
+use Rattle.protocol.specs.Wants.{Some, Completes, WantedBy}
 use Rattle.protocol.proofs.Bytes.{bytes_join, joined_bytes}
 use Rattle.protocol.proofs.Client.{client_lawful, begun_shaped}
 use Rattle.protocol.proofs.Limits.{limits5, limits4}
@@ -31,7 +30,7 @@ use Rattle.client_delivery.proofs.wants.Client.{undecided_is, lacks, wants_some}
 use Rattle.client_session.specs.declared.Session.{Session}
 use Rattle.client_session.specs.Session.{view, held_bytes, outcome, wants}
 use Rattle.client_session.specs.Calls.{Call, prepared_by, prepare5, prepare4, start, deliver}
-use Rattle.socks.specs.Demand3.{receiver, tunnel_of, joined_of}
+use Rattle.socks.specs.Demand3.{receiver, joined_of}
 use Rattle.socks.specs.Wants.{AnyWants, LeavesOne, Reads, Read}
 use Rattle.socks.proofs.InTwo.{start_begins}
 use Rattle.socks.proofs.Tunnels.{Stands, step}

@@ -1,12 +1,12 @@
 -- F-10: a course behind an entry.
-use Prim.Native.Nat.{ℕ, ◌+◌, ◌-◌, ◌≤◌, ◌<◌, min}
+use Prim.Native.Nat.{ℕ, ◌+◌, ◌-◌, ◌≤◌, ◌<◌}
 use native.Mathlib.Omega.{arith}
 use mathlib.Core.Path.{◌≡◌, refl, ap, sym, ◌∙◌}
 use mathlib.Core.Bool.{Bool, true, false, cond, not, ◌&&◌}
 use mathlib.Core.List.{List, [], ◌∷◌, ◌++◌}
 use lib.ListN.{length, take, drop, replicate, length-append, length-take, length-drop, length-replicate, take-append-drop}
 use lib.Seq.{length-take-le, take-append-le, drop-append-le, take-append-add, take-append_seam}
-use lib.Dec.{leb, eqb, lit≤}
+use lib.Dec.{eqb, lit≤}
 use borrow.Author.Tests.{le-leb, lt-leb}
 use Rattle.protocol.proofs.Bytes.{same_equal}
 use Rattle.protocol.specs.Bytes.{same}
@@ -21,7 +21,7 @@ use Rattle.client_session.specs.Calls.{Call, refusal, takes, deliver, DeliverRes
 use Rattle.talk.specs.Talk.{onward, is_over}
 use Rattle.captures_spec.specs.Captures.{sent, received}
 use Rattle.captures.specs.declared.walk.Course.{Course}
-use Rattle.captures.specs.Walk.{taking, passed}
+use Rattle.captures.specs.Walk.{taking}
 use Rattle.captures.specs.Coded.{Within, Passes}
 
 abbrev pub course : Session → ℕ → ℕ → Bool → Course

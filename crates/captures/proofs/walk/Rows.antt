@@ -4,7 +4,7 @@ use native.Mathlib.Omega.{arith}
 use mathlib.Core.Path.{◌≡◌, refl, ap, sym, subst, ◌∙◌}
 use mathlib.Core.Bool.{Bool, true, false, cond, ◌&&◌}
 use mathlib.Core.Option.{Option, some}
-use mathlib.Core.List.{List, [], ◌∷◌}
+use mathlib.Core.List.{List}
 use lib.ListN.{length, take, drop, replicate}
 use lib.Seq.{length-take-le}
 use lib.Dec.{leb, eqb}
@@ -18,9 +18,9 @@ use Rattle.captures_spec.specs.Captures.{Direction, sent, received, Entry}
 use Rattle.captures_spec.specs.Reading.{direction_by, row_of}
 use Rattle.captures.specs.declared.entries.Head.{Head}
 use Rattle.captures.specs.declared.walk.Course.{Course}
-use Rattle.captures.specs.Walk.{is_open, passed, walked, held}
+use Rattle.captures.specs.Walk.{is_open, walked, held}
 use Rattle.captures.specs.Coded.{way, Within, Passes}
-use Rattle.captures.proofs.entries.Laws.{there_is, row_end, head_at, end_at, size_at, entry_at, Entered, row_some}
+use Rattle.captures.proofs.entries.Laws.{there_is, row_end, head_at, size_at, Entered, row_some}
 
 abbrev pub left : List Entry → Course → List ℕ → Bool
 left es c due = walked es c.session (take c.due due) c.sent

@@ -1,4 +1,3 @@
-use borrow.Author.Tests.{eqb-true, eqb-false}
 use Rattle.proxy_spec.specs.Side.{reads}
 use Rattle.proxy_requests.proofs.Leaves.{is_first, is_second, is_neither, passed, refused, late, came}
 use Rattle.proxy_requests.proofs.read_first.Goals as goal

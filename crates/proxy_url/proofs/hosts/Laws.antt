@@ -20,7 +20,7 @@ use Rattle.address_text.specs.ipv6.Answers.{ipv6_text}
 use Rattle.buffers.specs.write.Written.{overwrite, Wrote}
 use Rattle.buffers.proofs.write.Laws.{then}
 use Rattle.buffers.proofs.write.Parts.{part_from}
-use Rattle.proxy_url_spec.specs.Reading.{Read, reads, dies, mapped, map, behind, onward, seq, always, or, common, word, one, consed, many, itself, mark_of, ipv6_by, is_some, ipv6_goes_on, along, ipv6_end, ipv6_text_of, Hosted, bracketed, brackets_of, host_byte, named, name_of, host_of}
+use Rattle.proxy_url_spec.specs.Reading.{Read, reads, dies, mapped, map, behind, onward, seq, always, common, word, one, consed, many, itself, mark_of, ipv6_by, is_some, ipv6_goes_on, along, ipv6_end, ipv6_text_of, Hosted, bracketed, brackets_of, host_byte, named, name_of, host_of}
 use Rattle.proxy_url.specs.Coded.{lastly, host_coded}
 use Rattle.proxy_url.specs.declared.hosts.HostRead.{HostRead}
 use Rattle.proxy_url.proofs.Readers.{byte_behind, byte_inside, mark_first, or_left, or_right, ahead, many_marked, many_full, many_more, many_dies}

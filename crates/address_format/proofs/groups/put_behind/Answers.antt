@@ -2,7 +2,7 @@ use Rattle.address_format.proofs.groups.Puts.{five, behind_more}
 use Rattle.address_format.specs.groups.Groups.{behind_mark}
 use Rattle.address_format.proofs.numerals.Laws.{nothing, one, then}
 use borrow.Author.Rules.{rules}
-use lib.ListN.{length, take, length-set}
+use lib.ListN.{length-set}
 use lib.Seq.{take_all}
 use mathlib.Core.Path.{◌∙◌}
 use native.Mathlib.Omega.{arith}

@@ -1,9 +1,8 @@
 use lib.Seq.{take_all}
-use lib.ListN.{take}
 use Rattle.address_format.proofs.numerals.Laws.{nothing, digits}
 use Rattle.address_format.specs.numerals.Digits.{hex_of}
 use borrow.Author.Rules.{rules}
-use lib.ListN.{length, length-set}
+use lib.ListN.{length-set}
 use native.Mathlib.Omega.{arith}
 use Prim.Native.Nat.{◌-◌}
 use Rattle.address_format.proofs.numerals.put_hex.Goals as goal

@@ -1,9 +1,6 @@
-use Rattle.std.proofs.Common.{◌+◌, ◌-◌, false, arith}
-use Rattle.protocol.specs.declared.Follows.{Follows}
-use Rattle.protocol.specs.declared.Follows.TheVariants.{Colons, Colon}
-use Rattle.address_text.proofs.groups.Stored.{stored}
+use Rattle.std.proofs.Common.{◌-◌, false, arith}
 use Rattle.address_text.proofs.digits.Runs.{within_small, digits_within}
-use Rattle.address_text.proofs.groups.Colons.{no_rows, rows_end, GroupTurn, group_turn}
+use Rattle.address_text.proofs.groups.Colons.{no_rows, rows_end, group_turn}
 use Rattle.address_text.proofs.groups.read_groups.Goals as goal
 
 pub loop-k-init : goal.loop-k-init

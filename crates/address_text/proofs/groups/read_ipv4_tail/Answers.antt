@@ -1,4 +1,4 @@
-use Rattle.std.proofs.Common.{◌≡◌, ◌-◌, length, arith, rules}
+use Rattle.std.proofs.Common.{◌≡◌, ◌-◌, arith, rules}
 use Rattle.protocol.specs.AddressReading.{ipv4_of}
 use Rattle.address_text.proofs.ipv4.Dots.{Read4, read4}
 use Rattle.address_text.proofs.groups.Colons.{quad_nothing, quad_shows}

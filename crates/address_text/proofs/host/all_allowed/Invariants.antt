@@ -1,5 +1,5 @@
 use Rattle.std.proofs.Common.{◌≡◌, ◌-◌, ◌&&◌, leb, length, drop}
-use Rattle.protocol.specs.Host.{allowed, all_allowed}
+use Rattle.protocol.specs.Host.{all_allowed}
 use Rattle.address_text.proofs.host.all_allowed.Given as goal
 
 abbrev pub invariant-loop-i : goal.invariant-loop-i

@@ -1,9 +1,9 @@
-use Rattle.std.proofs.Common.{◌≡◌, ◌-◌, true, cond, eqb, [], ◌∷◌, ◌++◌, length, take, arith, eq-eqb, ne_eqb}
+use Rattle.std.proofs.Common.{◌≡◌, ◌-◌, true, [], ◌∷◌, ◌++◌, take, arith, eq-eqb, ne_eqb}
 use mathlib.Core.Option.{none, some}
-use Rattle.protocol.specs.AddressReading.{ahead, ipv4_of}
-use Rattle.address_text.proofs.ipv4.Texts.{from, four_stored}
+use Rattle.protocol.specs.AddressReading.{ipv4_of}
+use Rattle.address_text.proofs.ipv4.Texts.{four_stored}
 use Rattle.address_text.proofs.digits.Runs.{digits_within}
-use Rattle.address_text.proofs.ipv4.Dots.{no_numbers, DotTurn, dot_turn, dots_end}
+use Rattle.address_text.proofs.ipv4.Dots.{no_numbers, dot_turn, dots_end}
 use Rattle.address_text.proofs.ipv4.read_ipv4.Goals as goal
 
 pub loop-k-init : goal.loop-k-init

@@ -1,7 +1,6 @@
-use Rattle.std.proofs.Common.{◌≡◌, length, take, rules, le-leb}
+use Rattle.std.proofs.Common.{rules, le-leb}
 use borrow.Author.Tests.{lt-leb}
-use Rattle.protocol.specs.AddressReading.{right_of, join_of}
-use Rattle.address_text.proofs.ipv6.Gaps.{JoinTurn, join_turn}
+use Rattle.address_text.proofs.ipv6.Gaps.{join_turn}
 use Rattle.address_text.proofs.ipv6.read_gap.Goals as goal
 
 pub returns-then-n-row-le14 : goal.returns-then-n-row-le14

@@ -1,7 +1,6 @@
 use Rattle.std.proofs.Common.{◌≤◌, length, sym, ◌∙◌, arith, take_all, eq-eqb, ne_eqb}
-use Rattle.protocol.specs.AddressReading.{ipv6_of}
 use Rattle.address_text.proofs.ipv4.Texts.{from_drop}
-use Rattle.address_text.proofs.ipv6.Gaps.{WholeTurn, whole_turn, starting, start_long}
+use Rattle.address_text.proofs.ipv6.Gaps.{whole_turn, starting, start_long}
 use Rattle.address_text.proofs.ipv6.read_ipv6.Goals.{Then-starts_gap}
 use Rattle.address_text.proofs.ipv6.read_ipv6.Goals as goal
 

@@ -1,6 +1,5 @@
 use Prim.Native.Nat.{◌-◌}
 use mathlib.Core.Path.{refl}
-use Rattle.protocol.specs.Bytes.{same}
 use Rattle.captures.proofs.alike.Same.{same_not, same_other, same_on, same_all}
 use Rattle.captures.proofs.walk.same.Goals as goal
 

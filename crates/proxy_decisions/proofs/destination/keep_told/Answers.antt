@@ -1,9 +1,5 @@
 use native.Mathlib.Omega.{arith}
-use mathlib.Core.List.{◌++◌}
-use Prim.Native.Nat.{◌-◌, ◌≤◌}
-use lib.ListN.{take, drop}
-use Rattle.proxy_decisions.specs.decision.Due.{asks_at}
-use Rattle.buffers.specs.hold.Held.{Finds}
+use Prim.Native.Nat.{◌-◌}
 use Rattle.buffers.proofs.hold.Laws.{found_inside}
 use Rattle.proxy_decisions.proofs.destination.Laws.{cut, found_in}
 use Rattle.proxy_decisions.proofs.destination.keep_told.Goals as goal

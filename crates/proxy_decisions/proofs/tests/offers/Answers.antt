@@ -1,6 +1,5 @@
 use mathlib.Core.Path.{refl, ◌∙◌}
 use Prim.Native.Nat.{◌-◌}
-use Rattle.proxy_spec.specs.End.{offers}
 use Rattle.proxy_decisions.proofs.tests.Loops.{offers_here, offers_on, offers_none}
 use Rattle.proxy_decisions.proofs.tests.offers.Goals as goal
 

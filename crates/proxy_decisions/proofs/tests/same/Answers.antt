@@ -1,7 +1,6 @@
 use mathlib.Core.Path.{refl, ◌∙◌}
 use mathlib.Core.List.{◌++◌}
 use Prim.Native.Nat.{◌+◌, ◌-◌}
-use Rattle.protocol.specs.Bytes.{same}
 use Rattle.proxy_decisions.proofs.tests.Loops.{same_first, same_not, same_other, same_on, same_all}
 use Rattle.proxy_decisions.proofs.tests.same.Goals as goal
 

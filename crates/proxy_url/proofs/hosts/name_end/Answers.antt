@@ -2,7 +2,7 @@ use mathlib.Core.Path.{sym, ◌∙◌}
 use Prim.Native.Nat.{◌-◌}
 use native.Mathlib.Nat.{zero-add}
 use borrow.Author.Rules.{rules}
-use Rattle.proxy_url_spec.specs.Reading.{along, host_byte}
+use Rattle.proxy_url_spec.specs.Reading.{host_byte}
 use Rattle.proxy_url.specs.Coded.{lastly}
 use Rattle.proxy_url.proofs.hosts.Laws.{along_more, along_stop, along_end, lastly_byte}
 use Rattle.proxy_url.proofs.hosts.name_end.Goals as goal

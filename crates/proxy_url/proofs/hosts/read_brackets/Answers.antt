@@ -1,7 +1,5 @@
-use mathlib.Core.Path.{◌≡◌, sym, ◌∙◌}
-use Prim.Native.Nat.{◌≤◌}
+use mathlib.Core.Path.{sym, ◌∙◌}
 use native.Mathlib.Omega.{arith}
-use lib.ListN.{length, take}
 use lib.Seq.{length-take-le}
 use Rattle.proxy_url.proofs.hosts.Laws.{ipv6_inside, brackets_open, brackets_other, brackets_alone, brackets_whole}
 use borrow.Author.Rules.{rules}

@@ -2,7 +2,6 @@ use mathlib.Core.Path.{◌∙◌}
 use Prim.Native.Nat.{◌-◌}
 use native.Mathlib.Nat.{zero-add}
 use borrow.Author.Rules.{rules}
-use Rattle.proxy_url_spec.specs.Reading.{common}
 use Rattle.proxy_url.proofs.texts.Laws.{common_more, common_other, common_end}
 use Rattle.proxy_url.proofs.texts.common.Goals as goal
 

@@ -1,6 +1,5 @@
 use native.Mathlib.Omega.{arith}
-use Prim.Native.Nat.{◌-◌, ◌≤◌}
-use lib.ListN.{length}
+use Prim.Native.Nat.{◌-◌}
 use Rattle.proxy_url_route.proofs.lines.Laws.{next_line, ends_within_lem, this_line}
 use Rattle.proxy_url_route.proofs.lines.line_at.Goals as goal
 

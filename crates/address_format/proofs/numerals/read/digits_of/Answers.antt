@@ -3,7 +3,7 @@ use Rattle.address_format.proofs.numerals.Reading.{digit_range, digit_more, no_d
 use Rattle.address_format.specs.numerals.Read.{is_digit, digits_from}
 use mathlib.Core.Bool.{true}
 use lib.Seq.{drop-length}
-use lib.ListN.{length, drop, get_or}
+use lib.ListN.{length, get_or}
 use native.Mathlib.Numerals.{add-one}
 use native.Mathlib.Nat.{pow-le-pow_right}
 use native.Mathlib.Omega.{arith}
