@@ -1,5 +1,5 @@
 // F-1: an address and its port, written as text. Each `put_` function but the last puts its bytes from a place on, and answers the place behind them.
-ghost use Rattle.std.specs.Prelude.{◌≡◌, ◌+◌, ◌≤◌, length};
+ghost use Rattle.std.specs.Prelude.{◌≡◌, ◌+◌, ◌≤◌, length, IsOk};
 ghost use Rattle.address_format.specs.numerals.Added.{Adds};
 ghost use Rattle.protocol.specs.Bound.{size_of};
 ghost use Rattle.protocol.specs.Host.{bracketed};
@@ -7,19 +7,11 @@ ghost use Rattle.protocol.specs.Requests.{kind_of};
 ghost use Rattle.address_format.specs.groups.Groups.{split_by, groups_of, groups_text};
 ghost use Rattle.address_format.specs.endpoint.Text.{host_text, text_of, bound_text};
 ghost use Rattle.address_format.specs.endpoint.Written.{write_text, TextResult};
-ghost use Rattle.protocol.specs.declared.Answer.TheVariants as Answer;
 
-use crate::groups::{groups_of, put_groups, put_row, value, wide};
+use crate::groups::{groups_of, put_groups, put_row};
 use crate::numerals::put_digits;
 use buffers::write::copy;
-use protocol::{Address, AddressKind, Answer, ENDPOINT_TEXT, SocksError};
-
-// Whether the text was written, and how many bytes it has.
-#[derive(Clone, Copy)]
-pub struct Written {
-    pub answer: Answer,
-    pub len: usize,
-}
+use protocol::{Address, AddressKind, ENDPOINT_TEXT, SocksError};
 
 fn put_ipv4(bytes: &[u8], out: &mut [u8], at: usize) -> usize
     requires { (length bytes.now ≡ 4) × (at + 24 ≤ length out.old) }
@@ -27,10 +19,10 @@ fn put_ipv4(bytes: &[u8], out: &mut [u8], at: usize) -> usize
     ensures adds { Adds out.old at (split_by 10 0x2E bytes.now) result out.new }
 {
     let values = [
-        value(bytes[0]),
-        value(bytes[1]),
-        value(bytes[2]),
-        value(bytes[3]),
+        u16::from(bytes[0]),
+        u16::from(bytes[1]),
+        u16::from(bytes[2]),
+        u16::from(bytes[3]),
     ];
     put_row(&values, 10, b'.', out, at)
 }
@@ -54,7 +46,7 @@ fn size_of(kind: AddressKind, len: u8) -> usize
     match kind {
         AddressKind::Ipv4 => 4,
         AddressKind::Ipv6 => 16,
-        AddressKind::Domain => len as usize,
+        AddressKind::Domain => usize::from(len),
     }
 }
 
@@ -77,28 +69,19 @@ fn put_text(kind: AddressKind, bytes: &[u8], port: u16, out: &mut [u8], at: usiz
 {
     let end = put_host(kind, bytes, out, at);
     out[end] = b':';
-    put_digits(wide(port), 10, out, end + 1)
+    put_digits(u64::from(port), 10, out, end + 1)
 }
 
-// The text goes into a buffer that holds the longest one: what the caller lends is written only if the text fits.
-pub fn put_bound(bound: Address, text: &mut [u8]) -> Written
+// The text's length. It goes into a buffer that holds the longest one: what the caller lends is written only if the text fits.
+pub fn put_bound(bound: Address, text: &mut [u8]) -> Result<usize, SocksError>
     ensures text_result { TextResult (write_text (bound_text bound) text.old) result text.new }
-    ensures answer_value { 261 ≤ length text.old → result.answer ≡ Answer.Accepted }
+    ensures enough { 261 ≤ length text.old → IsOk result }
 {
-    let kind = bound.kind;
-    let bytes = bound.bytes;
-    let n = size_of(kind, bound.len);
+    let n = size_of(bound.kind, bound.len);
     let mut whole = [0u8; ENDPOINT_TEXT];
-    let len = put_text(kind, &bytes[..n], bound.port, &mut whole, 0);
+    let len = put_text(bound.kind, &bound.bytes[..n], bound.port, &mut whole, 0);
     if text.len() < len {
-        return Written {
-            answer: Answer::Refused(SocksError::ShortText),
-            len: 0,
-        };
+        return Err(SocksError::ShortText);
     }
-    let end = copy(text, 0, &whole[..len]);
-    Written {
-        answer: Answer::Accepted,
-        len: end,
-    }
+    Ok(copy(text, 0, &whole[..len]))
 }

@@ -13,28 +13,14 @@ struct ZeroRun {
     count: usize,
 }
 
-pub fn value(b: u8) -> u16
-    ensures { result ≡ b }
-{
-    b as u16
-}
-
-pub fn wide(n: u16) -> u64
-    ensures { result ≡ n }
-{
-    n as u64
-}
-
 // The groups of an IPv6 address.
 pub fn groups_of(bytes: &[u8]) -> [u16; 8]
     requires { length bytes.now ≡ 16 }
     ensures { (length result ≡ 8) × (result ≡ groups_of bytes.now) }
 {
     let mut groups = [0u16; 8];
-    let mut i: usize = 0;
-    while i < 8 {
-        groups[i] = value(bytes[2 * i]) * 256 + value(bytes[2 * i + 1]);
-        i += 1;
+    for i in 0..8 {
+        groups[i] = u16::from(bytes[2 * i]) * 256 + u16::from(bytes[2 * i + 1]);
     }
     groups
 }
@@ -74,11 +60,9 @@ fn put_behind(values: &[u16], base: u64, mark: u8, out: &mut [u8], at: usize) ->
     ensures adds { Adds out.old at (behind_mark base mark values.now) result out.new }
 {
     let mut end = at;
-    let mut i: usize = 0;
-    while i < values.len() {
+    for &value in values {
         out[end] = mark;
-        end = put_digits(wide(values[i]), base, out, end + 1);
-        i += 1;
+        end = put_digits(u64::from(value), base, out, end + 1);
     }
     end
 }
@@ -89,11 +73,11 @@ pub fn put_row(values: &[u16], base: u64, mark: u8, out: &mut [u8], at: usize) -
     ensures upper_bound { result ≤ at + 6 * length values.now }
     ensures adds { Adds out.old at (split_by base mark values.now) result out.new }
 {
-    if values.len() == 0 {
+    let [first, rest @ ..] = values else {
         return at;
-    }
-    let end = put_digits(wide(values[0]), base, out, at);
-    put_behind(&values[1..], base, mark, out, end)
+    };
+    let end = put_digits(u64::from(*first), base, out, at);
+    put_behind(rest, base, mark, out, end)
 }
 
 // `::` in place of the groups from `start` to `behind`.

@@ -10,7 +10,7 @@ pub fn hex_digit(d: u8) -> u8
     requires { d < 16 }
     ensures { result ≡ glyph d }
 {
-    if d < 10 { 48 + d } else { 87 + d }
+    if d < 10 { b'0' + d } else { b'a' - 10 + d }
 }
 
 // Two digits for each byte.
@@ -19,14 +19,11 @@ pub fn put_hex(s: &[u8], out: &mut [u8], at: usize) -> usize
     ensures value { result ≡ at + 2 * length s.now }
     ensures adds { Adds out.old at (hex_of s.now) result out.new }
 {
-    let mut i = 0;
     let mut end = at;
-    while i < s.len() {
-        let b = s[i];
+    for &b in s {
         out[end] = hex_digit(b / 16);
         out[end + 1] = hex_digit(b % 16);
         end += 2;
-        i += 1;
     }
     end
 }

@@ -1,6 +1,6 @@
 // 01, "Address text": what a host stands for.
 
-ghost use Rattle.std.specs.Prelude.{◌≡◌, true};
+ghost use Rattle.std.specs.Prelude.{◌≡◌, ◌<◌, ◌↔◌, true, IsTrue, All};
 ghost use Rattle.protocol.specs.AddressReading.{domain, destination_of};
 ghost use Rattle.address_text.specs.ipv4.Answers.{address_text};
 
@@ -8,15 +8,19 @@ use crate::ipv4::{AddressText, no_address, read_ipv4};
 use crate::ipv6::read_ipv6;
 use protocol::AddressKind;
 
+// Whether no byte is `.` or `:`, or any other up to 3A.
+fn are_above(text: &[u8]) -> bool
+    ensures { IsTrue result ↔ All (λ b. 0x3A < b) text.now }
+{
+    text.iter().all(|&b| 0x3A < b)
+}
+
 // Whether none of the first five bytes is `.` or `:`, or any other up to 3A. Of address text one is: no number has more than three
 // digits, and no group more than four.
 fn lacks_mark(text: &[u8]) -> bool
     ensures { result ≡ true → destination_of text.now ≡ domain text.now }
 {
-    if text.len() < 5 {
-        return false;
-    }
-    0x3A < text[0] && (0x3A < text[1] && (0x3A < text[2] && (0x3A < text[3] && 0x3A < text[4])))
+    text.len() >= 5 && are_above(&text[..5])
 }
 
 // What a host's text stands for.
@@ -27,8 +31,7 @@ pub fn read_address(text: &[u8]) -> AddressText
         return no_address();
     }
     let four = read_ipv4(text);
-    let kind = four.kind;
-    match kind {
+    match four.kind {
         AddressKind::Ipv4 => four,
         AddressKind::Ipv6 => four,
         AddressKind::Domain => read_ipv6(text),

@@ -6,88 +6,71 @@ ghost use Rattle.address_text.specs.digits.Digits.{goes_by, radix_of, digits_of}
 use protocol::{Digits, Follows};
 
 // The value of a hexadecimal digit of either case; 16 for any other byte.
+#[tactic(auto, unfolding(protocol::specs::AddressReading::hex_value))]
 pub fn hex_value(byte: u8) -> usize
     ensures { result ≡ hex_value byte }
 {
-    if byte < 0x30 {
-        return 16;
+    match byte {
+        b'0'..=b'9' => usize::from(byte - b'0'),
+        b'A'..=b'F' => usize::from(byte - b'A') + 10,
+        b'a'..=b'f' => usize::from(byte - b'a') + 10,
+        _ => 16,
     }
-    if byte < 0x3A {
-        return (byte - 0x30) as usize;
-    }
-    if byte < 0x41 {
-        return 16;
-    }
-    if byte < 0x47 {
-        return (byte - 0x37) as usize;
-    }
-    if byte < 0x61 {
-        return 16;
-    }
-    if byte < 0x67 {
-        return (byte - 0x57) as usize;
-    }
-    16
+}
+
+// How digits are read: those of a number, or those of a group.
+#[derive(Clone, Copy)]
+pub enum Radix {
+    Decimal,
+    Hexadecimal,
 }
 
 // Whether a digit may follow: in a number no leading zero and at most 255, in a group at most four digits.
-fn goes(decimal: bool, value: usize, count: usize, digit: usize) -> bool
+#[tactic(auto, unfolding(protocol::specs::AddressReading::decimal_goes, protocol::specs::AddressReading::hex_goes))]
+fn goes(radix: Radix, value: usize, count: usize, digit: usize) -> bool
     requires { value ≤ 0xFFFF }
-    ensures { result ≡ goes_by decimal value count digit }
+    ensures { result ≡ goes_by radix value count digit }
 {
-    if decimal {
-        if 10 <= digit {
-            return false;
-        }
-        if value == 0 {
-            return count == 0;
-        }
-        return value * 10 + digit < 256;
+    match radix {
+        Radix::Decimal => digit < 10 && (value != 0 || count == 0) && value * 10 + digit < 256,
+        Radix::Hexadecimal => digit < 16 && count < 4,
     }
-    if 16 <= digit {
-        return false;
-    }
-    count < 4
 }
 
-fn with_digit(decimal: bool, value: usize, digit: usize) -> usize
+fn with_digit(radix: Radix, value: usize, digit: usize) -> usize
     requires { (value ≤ 0xFFFF) × (digit ≤ 15) }
-    ensures { result ≡ value * radix_of decimal + digit }
+    ensures { result ≡ value * radix_of radix + digit }
 {
-    if decimal {
-        return value * 10 + digit;
+    match radix {
+        Radix::Decimal => value * 10 + digit,
+        Radix::Hexadecimal => value * 16 + digit,
     }
-    value * 16 + digit
 }
 
 // The longest number, or group, that the text begins with; count 0: none.
-pub fn read_digits(text: &[u8], decimal: bool) -> Digits
-    ensures { result ≡ digits_of decimal text.now }
+pub fn read_digits(text: &[u8], radix: Radix) -> Digits
+    ensures { result ≡ digits_of radix text.now }
 {
     let mut value: usize = 0;
-    let mut count: usize = 0;
-    while count < text.len() {
-        let digit = hex_value(text[count]);
-        if !goes(decimal, value, count, digit) {
+    for (count, &byte) in text.iter().enumerate() {
+        let digit = hex_value(byte);
+        if !goes(radix, value, count, digit) {
             return Digits { count, value };
         }
-        value = with_digit(decimal, value, digit);
-        count += 1;
+        value = with_digit(radix, value, digit);
     }
-    Digits { count, value }
+    Digits {
+        count: text.len(),
+        value,
+    }
 }
 
 // Whether a mark stands behind some digits.
+#[tactic(auto, unfolding(protocol::specs::AddressReading::mark_at))]
 pub fn mark_at(mark: u8, text: &[u8], count: usize) -> bool
     ensures { result ≡ mark_at mark text.now count }
 {
-    if count == 0 {
-        return false;
-    }
-    if count < text.len() {
-        return text[count] == mark;
-    }
-    false
+    0 < count && count < text.len() && text[count] == mark
 }
 
 // What follows the digits of a group.

@@ -5,7 +5,7 @@ ghost use Rattle.std.proofs.Math.Seq.{paste};
 ghost use Rattle.protocol.specs.AddressReading.{ipv4_of, row, no_row, ahead_row, quad_row};
 ghost use Rattle.address_text.specs.groups.Rows.{Shows};
 
-use crate::digits::{follows_at, read_digits};
+use crate::digits::{Radix, follows_at, read_digits};
 use crate::ipv4::read_ipv4;
 use protocol::{AddressKind, Follows};
 
@@ -29,11 +29,10 @@ pub struct GroupRow {
 fn no_groups() -> GroupRow
     ensures { (s : List ℕ) → Shows s no_row result }
 {
-    let zeros = [0u8; 16];
     GroupRow {
         stop: Stop::NoRow,
         len: 0,
-        bytes: zeros,
+        bytes: [0u8; 16],
         next: 0,
     }
 }
@@ -43,11 +42,7 @@ pub fn copied(mut out: [u8; 16], at: usize, src: [u8; 16], n: usize) -> [u8; 16]
     requires { at + n ≤ 16 }
     ensures { result ≡ paste out at src n }
 {
-    let mut i: usize = 0;
-    while i < n {
-        out[at + i] = src[i];
-        i += 1;
-    }
+    out[at..at + n].copy_from_slice(&src[..n]);
     out
 }
 
@@ -97,10 +92,9 @@ pub fn read_groups(text: &[u8]) -> GroupRow
 {
     let mut bytes = [0u8; 16];
     let mut at: usize = 0;
-    let mut k: usize = 0;
-    while k < 8 {
+    for k in 0..8 {
         let rest = &text[at..];
-        let group = read_digits(rest, false);
+        let group = read_digits(rest, Radix::Hexadecimal);
         let n = group.count;
         bytes[k + k] = high(group.value);
         bytes[k + k + 1] = low(group.value);
@@ -125,7 +119,6 @@ pub fn read_groups(text: &[u8]) -> GroupRow
             }
             Follows::Colon => {
                 at = at + n + 1;
-                k += 1;
             }
         }
     }

@@ -5,7 +5,7 @@ ghost use Rattle.std.proofs.Math.Option.{none};
 ghost use Rattle.protocol.specs.AddressReading.{ipv4_of};
 ghost use Rattle.address_text.specs.ipv4.Answers.{ipv4_text};
 
-use crate::digits::{mark_at, read_digits};
+use crate::digits::{Radix, mark_at, read_digits};
 use protocol::AddressKind;
 
 // A text's kind, and its address bytes: four for Ipv4, sixteen for Ipv6, none for Domain. The others are 0.
@@ -18,10 +18,9 @@ pub struct AddressText {
 pub fn no_address() -> AddressText
     ensures { result ≡ ipv4_text none }
 {
-    let zeros = [0u8; 16];
     AddressText {
         kind: AddressKind::Domain,
-        bytes: zeros,
+        bytes: [0u8; 16],
     }
 }
 
@@ -31,20 +30,18 @@ pub fn read_ipv4(text: &[u8]) -> AddressText
 {
     let mut bytes = [0u8; 16];
     let mut at: usize = 0;
-    let mut k: usize = 0;
-    while k < 3 {
+    for k in 0..3 {
         let rest = &text[at..];
-        let number = read_digits(rest, true);
+        let number = read_digits(rest, Radix::Decimal);
         let n = number.count;
         if !mark_at(b'.', rest, n) {
             return no_address();
         }
         bytes[k] = number.value as u8;
         at = at + n + 1;
-        k += 1;
     }
     let rest = &text[at..];
-    let number = read_digits(rest, true);
+    let number = read_digits(rest, Radix::Decimal);
     if number.count == 0 {
         return no_address();
     }

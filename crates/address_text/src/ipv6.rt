@@ -14,11 +14,10 @@ fn read_right(text: &[u8]) -> GroupRow
     ensures { Shows text.now (right_of text.now) result }
 {
     if text.len() == 0 {
-        let zeros = [0u8; 16];
         return GroupRow {
             stop: Stop::Ends,
             len: 0,
-            bytes: zeros,
+            bytes: [0u8; 16],
             next: 0,
         };
     }
@@ -30,8 +29,7 @@ fn joined(left: [u8; 16], n: usize, right: [u8; 16], m: usize) -> [u8; 16]
     requires { n + m ≤ 16 }
     ensures { result ≡ take n left ++ (replicate (16 - (n + m)) 0 ++ take m right) }
 {
-    let zeros = [0u8; 16];
-    let head = copied(zeros, 0, left, n);
+    let head = copied([0u8; 16], 0, left, n);
     copied(head, 16 - m, right, m)
 }
 
@@ -63,13 +61,7 @@ fn read_gap(left: [u8; 16], n: usize, text: &[u8]) -> AddressText
 fn starts_gap(text: &[u8]) -> bool
     ensures { result ≡ starts_gap text.now }
 {
-    if text.len() < 2 {
-        return false;
-    }
-    if text[0] == b':' {
-        return text[1] == b':';
-    }
-    false
+    text.starts_with(b"::")
 }
 
 // Eight groups, or fewer with `::`, up to the text's end.
@@ -77,8 +69,7 @@ pub fn read_ipv6(text: &[u8]) -> AddressText
     ensures { result ≡ ipv6_text (ipv6_of text.now) }
 {
     if starts_gap(text) {
-        let zeros = [0u8; 16];
-        return read_gap(zeros, 0, &text[2..]);
+        return read_gap([0u8; 16], 0, &text[2..]);
     }
     let row = read_groups(text);
     let stop = row.stop;

@@ -9,8 +9,7 @@ use lib.ListN.{length, take, drop, replicate}
 use lib.Seq.{drop-append_seam}
 use lib.Dec.{lit≤}
 use borrow.Author.Tests.{le-leb}
-use Rattle.protocol.specs.declared.Answer.{Answer}
-use Rattle.protocol.specs.declared.Answer.TheVariants.{Accepted, Refused}
+use Rattle.protocol.specs.Answers.{Answer, Accepted, Refused}
 use Rattle.protocol.specs.declared.Version.{Version}
 use Rattle.protocol.specs.declared.Version.TheVariants as version
 use Rattle.protocol.specs.Bytes.{Bytes, BytePieces}

@@ -5,7 +5,7 @@ use mathlib.Core.Bool.{Bool}
 use mathlib.Core.List.{List, ◌++◌}
 use lib.ListN.{length, take}
 use Rattle.protocol.specs.declared.Address.{Address}
-use Rattle.protocol.specs.declared.Answer.TheVariants.{Accepted}
+use Rattle.protocol.specs.Answers.{Accepted}
 use Rattle.protocol.specs.declared.Outcome as client-told
 use Rattle.protocol.specs.declared.Outcome.TheVariants as client-is
 use Rattle.protocol.specs.Bytes.{Bytes}

@@ -1,7 +1,6 @@
 -- F-3: both ends meet. A client prepared and started, an end set up, lists of deliveries to each, and the caller's answer of success.
 use Rattle.std.specs.Prelude.{ℕ, ◌≤◌, ◌≡◌, Bool, List, [], ◌++◌, length, take}
-use Rattle.protocol.specs.declared.Answer as code
-use Rattle.protocol.specs.declared.Answer.TheVariants.{Accepted}
+use Rattle.protocol.specs.Answers as code
 use Rattle.protocol.specs.declared.Outcome.TheVariants as client-is
 use Rattle.protocol.specs.Bytes.{Bytes, BytePieces}
 use Rattle.protocol.specs.Bound.{Endpoint, address_of}
@@ -63,8 +62,8 @@ pub record Meeting (o : Opening) (s : Session) (sent : List ℕ) (ds : List Deli
 -- an answer that is lent 262 bytes, with any bound address
 abbrev pub Meets : Prepared → Opening → Type 0
 Meets p o =
-    (first : List ℕ) → p.answer ≡ Accepted → (start p.session first).answer ≡ Accepted
-    → (authenticates : Bool) (user password : List ℕ) → (set_up authenticates user password).answer ≡ Accepted → SameCredentials o (setup_for authenticates user password)
+    (first : List ℕ) → p.answer ≡ code.Accepted → (start p.session first).answer ≡ code.Accepted
+    → (authenticates : Bool) (user password : List ℕ) → (set_up authenticates user password).answer ≡ code.Accepted → SameCredentials o (setup_for authenticates user password)
     → (ds es : List Delivery) → BytePieces ds → BytePieces es
     → (x : Endpoint) → Given x → (out tail tail' : List ℕ) → 262 ≤ length out
     → (let s = (start p.session first).session in
@@ -75,8 +74,8 @@ Meets p o =
 -- and there is such an exchange: lists of deliveries for which this holds, for any bytes behind
 abbrev pub Exchanges : Prepared → Opening → Type 0
 Exchanges p o =
-    (first : List ℕ) → p.answer ≡ Accepted → (start p.session first).answer ≡ Accepted
-    → (authenticates : Bool) (user password : List ℕ) → (set_up authenticates user password).answer ≡ Accepted → SameCredentials o (setup_for authenticates user password)
+    (first : List ℕ) → p.answer ≡ code.Accepted → (start p.session first).answer ≡ code.Accepted
+    → (authenticates : Bool) (user password : List ℕ) → (set_up authenticates user password).answer ≡ code.Accepted → SameCredentials o (setup_for authenticates user password)
     → (x : Endpoint) → Given x → (out tail tail' : List ℕ) → 262 ≤ length out → Bytes (all_replies o x ++ tail) → Bytes (all_requests o ++ tail')
     → (let s = (start p.session first).session in
     let sent = take (start p.session first).sent (start p.session first).output in

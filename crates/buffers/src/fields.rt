@@ -12,8 +12,7 @@ pub fn put_port(out: &mut [u8], at: usize, port: u16) -> usize
     requires { at + 2 ≤ length out.old }
     ensures { Wrote out.old at (two port) result out.new }
 {
-    let next = put_byte(out, at, (port / 256) as u8);
-    put_byte(out, next, (port % 256) as u8)
+    copy(out, at, &port.to_be_bytes())
 }
 
 // A length byte and the bytes that it counts.
@@ -21,7 +20,7 @@ pub fn put_counted(out: &mut [u8], at: usize, src: &[u8]) -> usize
     requires { (length src.now ≤ 255) × (at + (length src.now + 1) ≤ length out.old) }
     ensures { Wrote out.old at (length src.now ∷ src.now) result out.new }
 {
-    let next = put_byte(out, at, (src.len() % 256) as u8);
+    let next = put_byte(out, at, src.len() as u8);
     copy(out, next, src)
 }
 
@@ -39,5 +38,5 @@ pub fn method_byte(method: AuthMethod) -> u8
 pub fn credentials_too_long(auth: bool, user: &[u8], password: &[u8]) -> bool
     ensures { result ≡ (auth && (ltb 255 (length user.now) || ltb 255 (length password.now))) }
 {
-    auth && (CREDENTIAL < user.len() || CREDENTIAL < password.len())
+    auth && CREDENTIAL < user.len().max(password.len())
 }

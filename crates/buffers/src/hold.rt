@@ -3,7 +3,7 @@ ghost use Rattle.std.specs.Prelude.{◌≡◌, ◌++◌, ◌+◌, ◌-◌, ◌�
 ghost use Rattle.buffers.specs.write.Written.{overwrite};
 ghost use Rattle.buffers.specs.hold.Held.{Kept};
 
-use crate::write::{copy, least};
+use crate::write::copy;
 use protocol::{AddressKind, Bound};
 
 // Where an address stands and how many bytes it has; its kind and its port.
@@ -18,26 +18,13 @@ pub fn stands(kind: AddressKind, at: usize, len: usize, port: u16) -> Found
     ensures { result ≡ record { at = at; len = len; bound = record { kind = kind; port = port } } }
 {
     Found {
-        at: at,
-        len: len,
-        bound: Bound {
-            kind: kind,
-            port: port,
-        },
+        at,
+        len,
+        bound: Bound { kind, port },
     }
 }
 
-// Moves n bytes from a place to the start.
-fn shift(hold: &mut [u8], from: usize, n: usize)
-    requires { from + n ≤ length hold.old }
-    ensures { hold.new ≡ overwrite hold.old 0 (take n (drop from hold.old)) }
-{
-    let mut i: usize = 0;
-    while i < n {
-        hold[i] = hold[from + i];
-        i += 1;
-    }
-}
+// `hold`, `n` and `piece` stay three parameters: a struct of them would hold the `&mut`, and its clauses would be about a loan.
 
 // What is unread of the first n bytes of the hold and then a piece, kept at the hold's start. Every byte behind that stays.
 pub fn keep_rest(hold: &mut [u8], n: usize, piece: &[u8], place: usize)
@@ -45,12 +32,11 @@ pub fn keep_rest(hold: &mut [u8], n: usize, piece: &[u8], place: usize)
     ensures { hold.new ≡ overwrite hold.old 0 (drop place (take n hold.old ++ piece.now)) }
 {
     if n <= place {
-        let from = place - n;
-        copy(hold, 0, &piece[from..]);
+        copy(hold, 0, &piece[place - n..]);
         return;
     }
     if 0 < place {
-        shift(hold, place, n - place);
+        hold.copy_within(place..n, 0);
     }
     copy(hold, n - place, piece);
 }
@@ -60,9 +46,8 @@ fn keep_part(hold: &mut [u8], n: usize, piece: &[u8], from: usize, to: usize)
     requires { (n ≤ length hold.old) × (from ≤ to) × (to ≤ from + length hold.old) × (to ≤ n + length piece.now) }
     ensures { hold.new ≡ take (to - from) (drop from (take n hold.old ++ piece.now)) ++ drop (to - from) hold.old }
 {
-    let m = least(to, n);
-    let end = to - m;
-    keep_rest(hold, m, &piece[..end], from);
+    let m = to.min(n);
+    keep_rest(hold, m, &piece[..to - m], from);
 }
 
 // Beside the bytes that were kept: how many they are, their kind and the port.
@@ -79,9 +64,8 @@ pub fn keep_found(found: Found, hold: &mut [u8], n: usize, piece: &[u8], at: usi
 {
     let from = at + found.at;
     keep_part(hold, n, piece, from, from + found.len);
-    let bound = found.bound;
     Held {
         len: found.len,
-        bound: bound,
+        bound: found.bound,
     }
 }

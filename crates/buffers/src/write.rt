@@ -2,18 +2,16 @@
 ghost use Rattle.std.specs.Prelude.{◌≡◌, [], ◌∷◌, ◌+◌, ◌≤◌, ◌<◌, min, length, drop};
 ghost use Rattle.buffers.specs.write.Written.{Wrote};
 
+// `out` and `at` stay two parameters: a writer would hold the `&mut`, and its clauses would be about a loan.
+
 // Copies src to a place.
 pub fn copy(out: &mut [u8], at: usize, src: &[u8]) -> usize
     requires { at + length src.now ≤ length out.old }
     ensures { Wrote out.old at src.now result out.new }
 {
-    let n = src.len();
-    let mut i = 0;
-    while i < n {
-        out[at + i] = src[i];
-        i += 1;
-    }
-    at + n
+    let end = at + src.len();
+    out[at..end].copy_from_slice(src);
+    end
 }
 
 pub fn put_byte(out: &mut [u8], at: usize, b: u8) -> usize
@@ -27,23 +25,19 @@ pub fn put_byte(out: &mut [u8], at: usize, b: u8) -> usize
 pub fn wide(b: u8) -> usize
     ensures { result ≡ b }
 {
-    b as usize
+    usize::from(b)
 }
 
 // The smaller of two counts.
 pub fn least(a: usize, b: usize) -> usize
     ensures { result ≡ min a b }
 {
-    if a < b { a } else { b }
+    a.min(b)
 }
 
 // The part of a piece after so many bytes: what a delivery did not use.
 pub fn rest(piece: &[u8], count: usize) -> &[u8]
     ensures { result.now ≡ drop count piece.now }
 {
-    let end = piece.len();
-    if end <= count {
-        return &piece[end..];
-    }
-    &piece[count..end]
+    &piece[count.min(piece.len())..]
 }

@@ -3,31 +3,28 @@ use Prim.Native.Nat.{ℕ}
 use mathlib.Core.Path.{◌≡◌, refl, ap}
 use mathlib.Core.Logic.{inl, inr}
 use mathlib.Core.Bool.{true}
+use Rattle.std.specs.Prelude.{Ok}
 use mathlib.Core.List.{List, ◌++◌}
-use Rattle.protocol.specs.declared.Answer.{Answer}
-use Rattle.protocol.specs.declared.Answer.TheVariants.{Accepted}
+use Rattle.protocol.specs.Answers.{Answer, Accepted}
 use Rattle.protocol.specs.Bytes.{Bytes}
 use Rattle.protocol.specs.Numbers.{answer_number}
 use Rattle.protocol.specs.Opening.{V5, V4, Condition, conditions5, conditions4, None, Opening, opening5, opening4, Sixteen}
-use Rattle.protocol.proofs.Limits.{number_accepted}
 use Rattle.protocol.proofs.Claims.{none_then, none_both}
 use Rattle.captures_spec.specs.Captures.{RunsPast, OneReading, AlikeCaptures}
 use Rattle.captures_spec.proofs.Rows.{one_reading}
-use Rattle.captures.specs.declared.Compared.{Compared}
-use Rattle.captures.specs.Calls.{check5, check4, compare5, compare4}
+use Rattle.captures.specs.Calls.{Compared, check5, check4, compare5, compare4}
 use Rattle.captures.specs.Judges.{one_capture, two_captures, Checks, Compares}
 use Rattle.captures.proofs.Judges.{checks5, checks4, compares5, compares4}
 
 -- a capture that is accepted is accepted beside itself, and alike
-pub record Itself (x : Compared) : Type 0 where
-  pub accepted : x.answer ≡ Accepted
-  pub alike : x.alike ≡ true
+abbrev pub Itself : Compared → Type 0
+Itself x = x ≡ Ok true
 
 itself : (cs : List Condition) (o : Opening) (c : List ℕ) → Bytes c → {x : Answer} {y : Compared} → Checks cs o c x → Compares cs o c c y → x ≡ Accepted → Itself y
 itself cs o c b {x} {y} h k q =
     let (n, (cut, (held, _))) = none_both cs (one_capture o c) (h.accepts.0 (ap answer_number q)) in
     let both : None (cs ++ two_captures o c c) = none_then cs (two_captures o c c) n (cut, (cut, (held, tt))) in
-    record { accepted = number_accepted y.answer (k.answers.accepts.1 both); alike = k.alike_just.1 (both, go cut (one_reading c b)) }
+    k.alike_just.1 (both, go cut (one_reading c b))
   where
     go : (RunsPast c → ⊥) → OneReading c → AlikeCaptures c c
     go cut (inl (es, r, _, _)) = (es, es, r, r, λ d. refl)

@@ -1,14 +1,13 @@
 -- F-10's promise: each number exactly when its condition holds and none before it, and alike exactly when both directions join to the same bytes.
 use Prim.Native.Nat.{ℕ, ◌<◌}
 use native.Mathlib.Omega.{arith}
-use mathlib.Core.Path.{◌≡◌, refl}
+use mathlib.Core.Path.{◌≡◌, refl, ap}
 use mathlib.Core.Logic.{◌↔◌, ◌⊎◌, inl, inr}
 use mathlib.Core.Bool.{Bool, true, false, cond, false≢true}
-use mathlib.Core.Option.{Option}
+use Rattle.std.specs.Prelude.{Option, Ok, Err}
 use mathlib.Core.List.{List, [], ◌∷◌}
 use lib.Dec.{lit<}
-use Rattle.protocol.specs.declared.Answer.{Answer}
-use Rattle.protocol.specs.declared.Answer.TheVariants.{Accepted, Refused}
+use Rattle.protocol.specs.Answers.{Answer, Accepted, Refused}
 use Rattle.protocol.specs.declared.SocksError.TheVariants.{CaptureCut, CaptureNotAccepted}
 use Rattle.protocol.specs.Bytes.{Bytes}
 use Rattle.protocol.specs.Numbers.{number, answer_number}
@@ -23,7 +22,7 @@ use Rattle.captures_spec.proofs.Rows.{Reads, is_row, is_past, reads, one_row, ne
 use Rattle.captures_spec.proofs.Alike.{row_bytes, alike_just}
 use Rattle.captures.specs.Walk.{held}
 use Rattle.captures.specs.Calls as calls
-use Rattle.captures.specs.Calls.{held_by, held_both, compared, check5, check4, compare5, compare4}
+use Rattle.captures.specs.Calls.{Compared, answer_of, held_by, held_both, compared, check5, check4, compare5, compare4}
 use Rattle.captures.specs.Judges.{one_capture, two_captures, Checks, Compares, Checks5, Checks4, Compares5, Compares4}
 use Rattle.captures.proofs.Walked.{held_just}
 
@@ -58,28 +57,28 @@ module _ (o : Opening) (limits : Limits o) where
   one_answer c _ (is_past p) y = refuses_first (RunsPast c) 25 (last c) (lit< tt) p
   one_answer c _ (is_row {es = es} r) y = passes_first (RunsPast c) (cond (held (prepared_for o) es) Accepted (Refused CaptureNotAccepted)) (last c) (never_both r) (judged c (held (prepared_for o) es) (accepts c es r y))
 
-  two_answer : (c c' : List ℕ) (r r' : Option (List Entry)) → Reads c r → Reads c' r' → Bytes c → Answers (answer_number (held_both (prepared_for o) r r').answer) (two_captures o c c')
+  two_answer : (c c' : List ℕ) (r r' : Option (List Entry)) → Reads c r → Reads c' r' → Bytes c → Answers (answer_number (answer_of (held_both (prepared_for o) r r'))) (two_captures o c c')
   two_answer c c' _ r' (is_past p) s y = refuses_first (RunsPast c) 25 ((RunsPast c' ↣ 25) ∷ last c) (lit< tt) p
   two_answer c c' _ _ (is_row r) (is_past p) y = passes_first (RunsPast c) (Refused CaptureCut) ((RunsPast c' ↣ 25) ∷ last c) (never_both r) (refuses_first (RunsPast c') 25 (last c) (lit< tt) p)
   two_answer c c' _ _ (is_row {es = es} r) (is_row {es = fs} s) y = go (held (prepared_for o) es) (accepts c es r y)
     where
-      go : (h : Bool) → h ≡ true ↔ AcceptedCapture o c → Answers (answer_number (cond h (record { answer = Accepted; alike = alike es fs }) (calls.refused CaptureNotAccepted)).answer) (two_captures o c c')
+      go : (h : Bool) → h ≡ true ↔ AcceptedCapture o c → Answers (answer_number (answer_of (cond h (Ok (alike es fs)) (Err CaptureNotAccepted)))) (two_captures o c c')
       go true a = passes_first (RunsPast c) Accepted ((RunsPast c' ↣ 25) ∷ last c) (never_both r) (passes_first (RunsPast c') Accepted (last c) (never_both s) (judged c true a))
       go false a = passes_first (RunsPast c) (Refused CaptureNotAccepted) ((RunsPast c' ↣ 25) ∷ last c) (never_both r) (passes_first (RunsPast c') (Refused CaptureNotAccepted) (last c) (never_both s) (judged c false a))
 
   -- ---- alike
 
-  two_alike : (c c' : List ℕ) (r r' : Option (List Entry)) → Reads c r → Reads c' r' → Bytes c → (held_both (prepared_for o) r r').alike ≡ true ↔ (None (two_captures o c c') × AlikeCaptures c c')
-  two_alike c c' _ r' (is_past p) s y = (λ q. absurd (false≢true q), λ (n, a). absurd (n.0 p))
-  two_alike c c' _ _ (is_row r) (is_past p) y = (λ q. absurd (false≢true q), λ (n, a). absurd (n.1.0 p))
+  two_alike : (c c' : List ℕ) (r r' : Option (List Entry)) → Reads c r → Reads c' r' → Bytes c → held_both (prepared_for o) r r' ≡ Ok true ↔ (None (two_captures o c c') × AlikeCaptures c c')
+  two_alike c c' _ r' (is_past p) s y = (λ q. cc, λ (n, a). absurd (n.0 p))
+  two_alike c c' _ _ (is_row r) (is_past p) y = (λ q. cc, λ (n, a). absurd (n.1.0 p))
   two_alike c c' _ _ (is_row {es = es} r) (is_row {es = fs} s) y = go (held (prepared_for o) es) (accepts c es r y)
     where
-      go : (h : Bool) → h ≡ true ↔ AcceptedCapture o c → (cond h (record { answer = Accepted; alike = alike es fs }) (calls.refused CaptureNotAccepted)).alike ≡ true ↔ (None (two_captures o c c') × AlikeCaptures c c')
+      go : (h : Bool) → h ≡ true ↔ AcceptedCapture o c → ◌≡◌ {A = Compared} (cond h (Ok (alike es fs)) (Err CaptureNotAccepted)) (Ok true) ↔ (None (two_captures o c c') × AlikeCaptures c c')
       go true (p, q) = (
-        λ e. ((never_both r, (never_both s, (λ f. f (p refl), tt))), (es, fs, r, s, (alike_just es fs).0 e)),
-        λ (n, (gs, hs, x, z, a)). (alike_just es fs).1 (rw (one_row r x, one_row s z) a),
+        λ e. let t : alike es fs ≡ true = cc in ((never_both r, (never_both s, (λ f. f (p refl), tt))), (es, fs, r, s, (alike_just es fs).0 t)),
+        λ (n, (gs, hs, x, z, a)). ap (λ (b : Bool). let y : Compared = Ok b in y) ((alike_just es fs).1 (rw (one_row r x, one_row s z) a)),
       )
-      go false (p, q) = (λ e. absurd (false≢true e), λ (n, a). absurd (n.1.1.0 (λ b. false≢true (q b))))
+      go false (p, q) = (λ e. cc, λ (n, a). absurd (n.1.1.0 (λ b. false≢true (q b))))
 
 -- ---- behind preparing
 
@@ -98,7 +97,7 @@ compares Accepted o cs a l c c' y y' =
 compares (Refused e) o cs a l c c' y y' =
     record {
       answers = answers_before (number e) cs (two_captures o c c') (number_is e).0 a;
-      alike_just = (λ q. absurd (false≢true q), λ (m, z). let w = (number_is e).0 in let v = a.accepts.1 (none_both cs (two_captures o c c') m).0 in absurd (omega arith));
+      alike_just = (λ q. cc, λ (m, z). let w = (number_is e).0 in let v = a.accepts.1 (none_both cs (two_captures o c c') m).0 in absurd (omega arith));
     }
 
 pub checks5 : Checks5

@@ -8,8 +8,7 @@ use mathlib.Core.List.{List, [], ◌∷◌, ◌++◌, append_assoc, append-nil}
 use lib.ListN.{length, take, drop, length-append, length-drop}
 use lib.Seq.{take-append_seam, drop-append_seam, drop-drop}
 use borrow.Author.Tests.{le-leb}
-use Rattle.protocol.specs.declared.Answer as code
-use Rattle.protocol.specs.declared.Answer.TheVariants.{Accepted, Refused}
+use Rattle.protocol.specs.Answers as code
 use Rattle.protocol.specs.declared.Outcome.TheVariants.{Open}
 use Rattle.protocol.specs.Numbers.{answer_number}
 use Rattle.protocol.specs.Opening.{check5 as prepares5, check4 as prepares4, Opening, opening5, opening4, start_room, delivery_room, Limits}
@@ -68,7 +67,7 @@ module _ (o : Opening) where
   asks : (got : List ℕ) (s : Session) → At o got s → InTurn (start_room o) (delivery_room o) s
   asks got s at = stands_asks (start_room o) (delivery_room o) (kept o) s _ at
 
-  accepted_lends : (got : List ℕ) (s : Session) → At o got s → (d : Delivery) → (answer_to K s d).answer ≡ Accepted → lends K d ≡ true
+  accepted_lends : (got : List ℕ) (s : Session) → At o got s → (d : Delivery) → (answer_to K s d).answer ≡ code.Accepted → lends K d ≡ true
   accepted_lends got s at d q =
       let n = ((asks got s at).deliver_number d.piece d.output).accepts.0 (ap answer_number q) in
       let f : length d.output < delivery_room o → ⊥ = n.1.1.0 in
@@ -91,9 +90,9 @@ module _ (o : Opening) where
       let at' : At o got (answer_to K s d).session = rw (ap (λ (c : Call). c.session) same) at in
       own_left more got at' u q (no_bytes (cond (lends K d) _ []) (rests K (answer_to K s d).session ds) r).1
 
-own : (x : code.Answer) (o : Opening) → (x ≡ Accepted → Limits o) → OwnAccepted (prepared_by x o) o (checked (prepared_by x o))
-own (Refused e) o l out p q ds y es fs cut recorded opened nothing c z r = absurd (clash (sym p))
-own Accepted o l out p q ds y es fs cut recorded opened nothing c z r =
+own : (x : code.Answer) (o : Opening) → (x ≡ code.Accepted → Limits o) → OwnAccepted (prepared_by x o) o (checked (prepared_by x o))
+own (code.Refused e) o l out p q ds y es fs cut recorded opened nothing c z r = absurd (clash (sym p))
+own code.Accepted o l out p q ds y es fs cut recorded opened nothing c z r =
     let s = start (prepared_for o) out in
     let b : Begun o s.session (sent_in s) = subst (λ (k : Call). Begun o k.session (sent_in k)) (sym (start_begins o out q (l refl))) (begins_stands o (l refl) out) in
     let h = begun_behind o (l refl) s.session (sent_in s) b in

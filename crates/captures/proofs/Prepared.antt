@@ -2,12 +2,11 @@
 use mathlib.Core.Path.{◌≡◌, ap, ◌∙◌}
 use Prim.Native.Nat.{ℕ}
 use mathlib.Core.List.{List}
-use Rattle.protocol.specs.declared.Answer.{Answer}
+use Rattle.protocol.specs.Answers.{Answer}
 use Rattle.protocol.specs.Opening.{V5, V4}
 use Rattle.client_session.specs.declared.Prepared.{Prepared}
 use Rattle.client_session.specs.Calls.{prepare5, prepare4}
-use Rattle.captures.specs.declared.Compared.{Compared}
-use Rattle.captures.specs.Calls.{checked, compared, check5, check4, compare5, compare4}
+use Rattle.captures.specs.Calls.{Compared, checked, compared, check5, check4, compare5, compare4}
 
 pub checked5 : (a : V5) (c : List ℕ) {p : Prepared} {r : Answer} → p ≡ prepare5 a → r ≡ checked p c → r ≡ check5 a c
 unfolding check5

@@ -1,5 +1,5 @@
 -- F-10: a session of an opening over the entries of a capture tells whether the opening accepts it.
-use Prim.Native.Nat.{ℕ, ◌+◌, ◌-◌, ◌≤◌}
+use Prim.Native.Nat.{ℕ, ◌+◌, ◌≤◌}
 use native.Mathlib.Omega.{arith}
 use mathlib.Core.Path.{◌≡◌, refl, ap, sym, subst, ◌∙◌}
 use mathlib.Core.Logic.{◌↔◌}
@@ -9,7 +9,7 @@ use lib.ListN.{length, take, drop, replicate, length-append, length-take, length
 use lib.Dec.{leb, eqb, lit≤}
 use borrow.Author.Tests.{le-leb, eq-eqb, eqb-true, eqb-false}
 use Rattle.protocol.proofs.Bytes.{same_just, both_true}
-use Rattle.protocol.specs.declared.Answer.TheVariants.{Accepted}
+use Rattle.protocol.specs.Answers.{Accepted}
 use Rattle.protocol.specs.declared.Outcome.{Outcome}
 use Rattle.protocol.specs.declared.Outcome.TheVariants.{Waiting, Open, Failed}
 use Rattle.protocol.specs.Bytes.{Bytes, same}
@@ -28,12 +28,12 @@ use Rattle.socks.proofs.InTwo.{start_begins}
 use Rattle.socks.proofs.Tunnels.{Stands, step, Begun}
 use Rattle.socks.proofs.Openings.{begins_stands}
 use Rattle.talk.specs.Talk.{FedOf, feed, onward, reached}
-use Rattle.talk.specs.Tunnel as tunnel
 use Rattle.talk.specs.Tunnel.{Delivery, lends, answer_to}
 use Rattle.talk.proofs.Feed.{feed_append, feed_within, feed_ready, feed_still, onward_within}
 use Rattle.talk.proofs.Deliveries.{lent}
 use Rattle.captures_spec.specs.Captures as captures
-use Rattle.captures_spec.specs.Captures.{Direction, sent, received, Entry, entry, joined}
+use Rattle.captures_spec.specs.declared.Direction.{Direction}
+use Rattle.captures_spec.specs.Captures.{sent, received, Entry, entry, joined}
 use Rattle.captures_spec.proofs.Due.{grown, sent_grows, sent_more, read_before}
 use Rattle.captures_spec.proofs.Entries.{Left, left_none, none_left, left_received, received_left, left_sent, sent_left, accepted_just}
 use Rattle.captures.specs.Walk.{is_open, taking, passed, walked, held}

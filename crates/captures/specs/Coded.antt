@@ -1,30 +1,35 @@
--- F-10 as the code has it: behind some entries, and at a place in a capture.
-use Rattle.std.specs.Prelude.{ℕ, ◌+◌, ◌≤◌, ◌≡◌, Bool, true, false, ◌&&◌, List, ◌++◌, length, take, drop}
-use Rattle.std.proofs.Math.Option.{some}
+-- F-10 as the code has it: behind some entries, and what is left of a direction.
+use Rattle.std.specs.Prelude.{ℕ, ◌+◌, ◌≤◌, ◌≡◌, Bool, false, Option, None, Some, IfSome, List, ◌++◌, length, take}
 use Rattle.client_session.specs.declared.Session.{Session}
-use Rattle.captures_spec.specs.Captures.{Direction, sent, received, Entry, joined}
+use Rattle.captures_spec.specs.declared.Direction.{Direction}
+use Rattle.captures_spec.specs.Captures.{Entry, if, joined}
 use Rattle.captures_spec.specs.Reading.{row_of}
 use Rattle.captures.specs.declared.walk.Course.{Course}
-use Rattle.captures.specs.declared.alike.Cursor.{Cursor}
 use Rattle.captures.specs.Walk.{passed}
-
-abbrev pub way : Bool → Direction
-way true = received
-way false = sent
 
 -- a course within an array of due bytes
 abbrev pub Within : Course → List ℕ → Type 0
 Within c due = (c.sent ≤ c.due) × (c.due ≤ length due)
 
--- a course behind an entry: what is left to do from there is what was left ahead of it
-pub record Passes (d : Direction) (bs : List ℕ) (c : Course) (due : List ℕ) (r : Course) (due' : List ℕ) : Type 0 where
-  pub size : length due' ≡ length due
-  pub within : Within r due'
-  pub on : (on : Session → List ℕ → ℕ → Bool) → passed d bs c.session (take c.due due) c.sent on ≡ (r.lawful && on r.session (take r.due due') r.sent)
+-- an unlawful entry ends it
+abbrev pub carried : Option Course → List ℕ → (Session → List ℕ → ℕ → Bool) → Bool
+carried None due on = false
+carried (Some c) due on = on c.session (take c.due due) c.sent
 
--- the bytes of a direction from a place on: those left of an entry, and those of the entries behind it
-pub record Remains (d : Direction) (c : List ℕ) (at : Cursor) (bs : List ℕ) : Type 0 where
-  pub within : at.at + at.left ≤ length c
-  pub behind : List Entry
-  pub is_row : row_of (drop (at.at + at.left) c) ≡ some behind
-  pub are : bs ≡ take at.left (drop at.at c) ++ joined d behind
+-- a course behind an entry: what is left to do from there is what was left ahead of it
+pub record Passes (d : Direction) (bs : List ℕ) (c : Course) (due : List ℕ) (r : Option Course) (due' : List ℕ) : Type 0 where
+  pub within : IfSome r (λ c. Within c due')
+  pub on : (on : Session → List ℕ → ℕ → Bool) → passed d bs c.session (take c.due due) c.sent on ≡ carried r due' on
+
+-- what is left of a direction: bytes of an entry, and those of the entries behind it
+pub record Remain (d : Direction) (bytes behind bs : List ℕ) : Type 0 where
+  pub entries : List Entry
+  pub is_row : row_of behind ≡ Some entries
+  pub are : bs ≡ bytes ++ joined d entries
+
+-- an entry's part of a direction
+abbrev pub part : Direction → Direction → List ℕ → List ℕ
+part d e bs = if d e bs
+
+abbrev pub size : List ℕ → List ℕ → ℕ
+size bytes behind = length bytes + length behind

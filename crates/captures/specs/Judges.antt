@@ -1,12 +1,11 @@
 -- F-10's promise: what each call answers, by the captures that an opening accepts, and whether two are alike.
-use Rattle.std.specs.Prelude.{ℕ, ◌≡◌, ◌↔◌, true, List, [], ◌∷◌, ◌++◌}
-use Rattle.protocol.specs.declared.Answer.{Answer}
+use Rattle.std.specs.Prelude.{ℕ, ◌≡◌, ◌↔◌, true, Ok, List, [], ◌∷◌, ◌++◌}
+use Rattle.protocol.specs.Answers.{Answer}
 use Rattle.protocol.specs.Bytes.{Bytes}
 use Rattle.protocol.specs.Numbers.{answer_number}
 use Rattle.protocol.specs.Opening.{V5, V4, Condition, ◌↣◌, conditions5, conditions4, None, Answers, Opening, opening5, opening4, Sixteen}
 use Rattle.captures_spec.specs.Captures.{RunsPast, AcceptedCapture, AlikeCaptures}
-use Rattle.captures.specs.declared.Compared.{Compared}
-use Rattle.captures.specs.Calls.{check5, check4, compare5, compare4}
+use Rattle.captures.specs.Calls.{Compared, answer_of, check5, check4, compare5, compare4}
 
 -- the checks behind those of preparing, each with its number: an entry that runs past the end, in the first capture and then in the second; then a first
 -- capture that is not accepted
@@ -21,9 +20,9 @@ abbrev pub Checks : List Condition → Opening → List ℕ → Answer → Type 
 Checks cs o c x = Answers (answer_number x) (cs ++ one_capture o c)
 
 pub record Compares (cs : List Condition) (o : Opening) (c c' : List ℕ) (x : Compared) : Type 0 where
-  pub answers : Answers (answer_number x.answer) (cs ++ two_captures o c c')
+  pub answers : Answers (answer_number (answer_of x)) (cs ++ two_captures o c c')
   -- alike exactly if no condition holds and both directions join to the same bytes
-  pub alike_just : x.alike ≡ true ↔ (None (cs ++ two_captures o c c') × AlikeCaptures c c')
+  pub alike_just : x ≡ Ok true ↔ (None (cs ++ two_captures o c c') × AlikeCaptures c c')
 
 -- for any arguments, with records of sixteen address bytes as their arrays have
 abbrev pub Checks5 : Type 0

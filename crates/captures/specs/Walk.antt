@@ -6,7 +6,8 @@ use Rattle.protocol.specs.declared.Outcome.TheVariants.{Waiting, Open, Failed}
 use Rattle.client_session.specs.declared.Session.{Session}
 use Rattle.client_session.specs.Session.{outcome}
 use Rattle.client_session.specs.Calls.{Call, start, deliver}
-use Rattle.captures_spec.specs.Captures.{Direction, sent, received, Entry}
+use Rattle.captures_spec.specs.declared.Direction.{Direction}
+use Rattle.captures_spec.specs.Captures.{sent, received, Entry}
 
 abbrev pub is_open : Outcome → Bool
 is_open Waiting = false

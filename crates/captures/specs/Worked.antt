@@ -1,6 +1,5 @@
 -- F-10, worked: captures of 01's plain opening for 192.0.2.7, port 443, in bytes, and the number that each is answered with.
-use Rattle.std.specs.Prelude.{ℕ, ◌≡◌, true, false, List, [], ◌∷◌, ◌++◌}
-use Rattle.protocol.specs.declared.Answer.TheVariants.{Accepted}
+use Rattle.std.specs.Prelude.{ℕ, ◌≡◌, true, false, Ok, List, [], ◌∷◌, ◌++◌}
 use Rattle.protocol.specs.Numbers.{answer_number}
 use Rattle.protocol.specs.Examples.{open5, address}
 use Rattle.captures.specs.Calls.{check5, compare5}
@@ -49,5 +48,5 @@ pub record Worked : Type 0 where
   pub bytes_cut : numbered (greeting ++ unended ++ (0x80 ∷ 0x02 ∷ 0x05 ∷ [])) ≡ 25
   pub header_cut : numbered (greeting ++ (0x80 ∷ [])) ≡ 25
   -- alike in other cuts and another order
-  pub alike : compare5 (open5 address) (greeting ++ (method ++ (connect ++ reply))) (at_once ++ replies) ≡ record { answer = Accepted; alike = true }
-  pub unlike : compare5 (open5 address) (greeting ++ (method ++ (connect ++ reply))) (greeting ++ replies) ≡ record { answer = Accepted; alike = false }
+  pub alike : compare5 (open5 address) (greeting ++ (method ++ (connect ++ reply))) (at_once ++ replies) ≡ Ok true
+  pub unlike : compare5 (open5 address) (greeting ++ (method ++ (connect ++ reply))) (greeting ++ replies) ≡ Ok false

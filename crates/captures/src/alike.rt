@@ -1,92 +1,80 @@
 // F-10: two captures are alike if both directions join to the same bytes, whatever their entries.
-ghost use Rattle.std.specs.Prelude.{◌≡◌, false, ◌&&◌, List, [], ℕ, ◌≤◌, ◌<◌, length};
-ghost use Rattle.std.proofs.Math.Option.{some};
+ghost use Rattle.std.specs.Prelude.{◌≡◌, ◌<◌, List, [], ◌∷◌, ℕ, Some, IfSome, IfNone};
 ghost use Rattle.protocol.specs.Bytes.{same};
-ghost use Rattle.protocol.specs.Opening.{is_none};
 ghost use Rattle.captures_spec.specs.Captures.{Entry, joined};
 ghost use Rattle.captures_spec.specs.Reading.{row_of, alike};
-ghost use Rattle.captures.specs.Coded.{way, Remains};
+ghost use Rattle.captures.specs.Coded.{Remain, part, size};
 
-use crate::entries::head_at;
+use crate::entries::first;
+use captures_spec::Direction;
 
-// A place in a capture, with so many bytes of an entry of the direction; behind these stand entries.
+// What is left of an entry's bytes, and the entries behind it.
 #[derive(Clone, Copy)]
-struct Cursor {
-    at: usize,
-    left: usize,
+struct Left<'a> {
+    bytes: &'a [u8],
+    behind: &'a [u8],
 }
 
-// Behind the two bytes of an entry of this direction; behind all of another one.
-fn enter(capture: &[u8], at: usize, received: bool) -> Cursor
-    requires { (at < length capture.now) × ((bs : List ℕ) × Remains (way received) capture.now (record { at = at; left = 0 }) bs) }
-    ensures { (at < result.at) × ((bs : List ℕ) → Remains (way received) capture.now (record { at = at; left = 0 }) bs → Remains (way received) capture.now result bs) }
+// The bytes of an entry, if it is of the direction.
+fn part<'a>(direction: Direction, of: Direction, bytes: &'a [u8]) -> &'a [u8]
+    ensures { result.now ≡ part direction of bytes.now }
 {
-    let head = head_at(capture, at);
-    let end = head.end;
-    if head.received == received {
-        return Cursor {
-            at: at + 2,
-            left: end - (at + 2),
-        };
+    match (direction, of) {
+        (Direction::Sent, Direction::Sent) | (Direction::Received, Direction::Received) => bytes,
+        _ => &[],
     }
-    Cursor { at: end, left: 0 }
 }
 
-// On to the next byte of the direction. At the capture's end nothing is left.
-fn seek(capture: &[u8], from: Cursor, received: bool) -> Cursor
-    requires { (bs : List ℕ) × Remains (way received) capture.now from bs }
-    ensures { (bs : List ℕ) → Remains (way received) capture.now from bs → Remains (way received) capture.now result bs × (from.at ≤ result.at) × (result.left ≡ 0 → bs ≡ []) }
+// The next byte of a direction, and what is left behind it.
+fn next<'a>(direction: Direction, bytes: &'a [u8], behind: &'a [u8]) -> Option<(u8, Left<'a>)>
+    ensures none { IfNone result ((bs : List ℕ) → Remain direction bytes.now behind.now bs → bs ≡ []) }
+    ensures byte { IfSome result (λ n. (bs : List ℕ) → Remain direction bytes.now behind.now bs → (more : List ℕ) × (bs ≡ n.0 ∷ more) × Remain direction n.1.bytes.now n.1.behind.now more) }
+    ensures shorter { IfSome result (λ n. size n.1.bytes.now n.1.behind.now < size bytes.now behind.now) }
 {
-    let mut cursor = from;
-    while cursor.at < capture.len() {
-        if 0 < cursor.left {
-            return cursor;
+    let mut left = bytes;
+    let mut later = behind;
+    loop {
+        if let [byte, bytes @ ..] = left {
+            let behind = later;
+            return Some((*byte, Left { bytes, behind }));
         }
-        cursor = enter(capture, cursor.at, received);
+        let entry = first(later)?;
+        left = part(direction, entry.direction, entry.bytes);
+        later = entry.behind;
     }
-    cursor
 }
 
 // Whether a direction joins to the same bytes.
-fn same_way(first: &[u8], second: &[u8], received: bool) -> bool
-    requires { (is_none (row_of first.now) ≡ false) × (is_none (row_of second.now) ≡ false) }
-    ensures { (es fs : List Entry) → row_of first.now ≡ some es → row_of second.now ≡ some fs → result ≡ same (joined (way received) es) (joined (way received) fs) }
+fn same_way(direction: Direction, first: &[u8], second: &[u8]) -> bool
+    ensures { (es fs : List Entry) → row_of first.now ≡ Some es → row_of second.now ≡ Some fs → result ≡ same (joined direction es) (joined direction fs) }
 {
-    let mut a = seek(first, Cursor { at: 0, left: 0 }, received);
-    let mut b = seek(second, Cursor { at: 0, left: 0 }, received);
-    while 0 < a.left {
-        if b.left == 0 {
+    let mut a = Left {
+        bytes: &[],
+        behind: first,
+    };
+    let mut b = Left {
+        bytes: &[],
+        behind: second,
+    };
+    while let Some((byte, more)) = next(direction, a.bytes, a.behind) {
+        let Some((other, others)) = next(direction, b.bytes, b.behind) else {
+            return false;
+        };
+        if byte != other {
             return false;
         }
-        let i = a.at;
-        let j = b.at;
-        if first[i] != second[j] {
-            return false;
-        }
-        a = seek(
-            first,
-            Cursor {
-                at: i + 1,
-                left: a.left - 1,
-            },
-            received,
-        );
-        b = seek(
-            second,
-            Cursor {
-                at: j + 1,
-                left: b.left - 1,
-            },
-            received,
-        );
+        a = more;
+        b = others;
     }
-    b.left == 0
+    match next(direction, b.bytes, b.behind) {
+        None => true,
+        Some(_) => false,
+    }
 }
 
 // Of two captures that have no other bytes.
 pub fn alike(first: &[u8], second: &[u8]) -> bool
-    requires { (is_none (row_of first.now) ≡ false) × (is_none (row_of second.now) ≡ false) }
-    ensures { (es fs : List Entry) → row_of first.now ≡ some es → row_of second.now ≡ some fs → result ≡ alike es fs }
+    ensures { (es fs : List Entry) → row_of first.now ≡ Some es → row_of second.now ≡ Some fs → result ≡ alike es fs }
 {
-    same_way(first, second, false) && same_way(first, second, true)
+    same_way(Direction::Sent, first, second) && same_way(Direction::Received, first, second)
 }

@@ -1,45 +1,57 @@
-// F-10: the entries of a capture, read where they stand.
-ghost use Rattle.std.specs.Prelude.{◌≡◌, ◌+◌, ◌≤◌, length, drop, leb};
-ghost use Rattle.protocol.specs.Bytes.{byte};
-ghost use Rattle.protocol.specs.Opening.{is_none};
-ghost use Rattle.captures_spec.specs.Reading.{length_by, row_of};
+// F-10: the entries of a capture, read from its start.
+ghost use Rattle.std.specs.Prelude.{◌≡◌, ◌≢◌, ◌+◌, ◌<◌, None, [], length, IfSome, IfNone};
+ghost use Rattle.captures_spec.specs.Captures.{entry};
+ghost use Rattle.captures_spec.specs.Reading.{ahead, row_of};
+ghost use Rattle.captures.specs.Calls.{whole};
 
-use buffers::write::wide;
+use captures_spec::Direction;
+use protocol::SocksError;
 
-// What an entry's two bytes say: its direction, and where its bytes end.
+// An entry, and what is behind it.
 #[derive(Clone, Copy)]
-pub struct Head {
-    pub received: bool,
-    pub end: usize,
+pub struct Entry<'a> {
+    pub direction: Direction,
+    pub bytes: &'a [u8],
+    pub behind: &'a [u8],
 }
 
-pub fn head_at(capture: &[u8], at: usize) -> Head
-    requires { at + 2 ≤ length capture.now }
-    ensures { result ≡ record { received = leb 128 (byte capture.now at); end = at + 2 + length_by (byte capture.now at) (byte capture.now (at + 1)) } }
+// The first entry, unless it runs past the end.
+pub fn first(capture: &[u8]) -> Option<Entry<'_>>
+    ensures entry { IfSome result (λ e. row_of capture.now ≡ ahead (entry e.direction e.bytes.now) (row_of e.behind.now)) }
+    ensures shorter { IfSome result (λ e. length e.bytes.now + length e.behind.now < length capture.now) }
+    ensures none { IfNone result (capture.now ≢ [] → row_of capture.now ≡ None) }
 {
-    let high = wide(capture[at]);
-    let low = wide(capture[at + 1]);
-    Head {
-        received: 128 <= high,
-        end: at + 2 + (high % 128 * 256 + low),
+    let [high, low, rest @ ..] = capture else {
+        return None;
+    };
+    let n = usize::from(*high % 128) * 256 + usize::from(*low);
+    if rest.len() < n {
+        return None;
     }
+    let direction = if *high < 128 {
+        Direction::Sent
+    } else {
+        Direction::Received
+    };
+    let (bytes, behind) = rest.split_at(n);
+    Some(Entry {
+        direction,
+        bytes,
+        behind,
+    })
 }
 
-// Whether an entry runs past the end.
-pub fn runs_past(capture: &[u8]) -> bool
-    ensures { result ≡ is_none (row_of capture.now) }
+// Refuses a capture of which an entry runs past the end.
+pub fn check_whole(capture: &[u8]) -> Result<(), SocksError>
+    ensures { result ≡ whole (row_of capture.now) }
 {
-    let n = capture.len();
-    let mut at: usize = 0;
-    while at < n {
-        if n - at < 2 {
-            return true;
-        }
-        let head = head_at(capture, at);
-        if n < head.end {
-            return true;
-        }
-        at = head.end;
+    let mut rest = capture;
+    while let Some(entry) = first(rest) {
+        rest = entry.behind;
     }
-    false
+    if rest.is_empty() {
+        Ok(())
+    } else {
+        Err(SocksError::CaptureCut)
+    }
 }

@@ -8,12 +8,3 @@ mod judge;
 pub mod v4;
 pub mod v5;
 mod walk;
-
-use protocol::Answer;
-
-// alike: accepted, and both directions of the two captures join to the same bytes.
-#[derive(Clone, Copy)]
-pub struct Compared {
-    pub answer: Answer,
-    pub alike: bool,
-}

@@ -3,18 +3,17 @@ ghost use Rattle.std.specs.Prelude.{◌≡◌};
 ghost use Rattle.lookup.specs.Chosen.{records_of};
 ghost use Rattle.captures.specs.Calls.{check4, compare4};
 
-use crate::{Compared, judge};
-use lookup::Lookup;
-use protocol::{Answer, Port, Record};
+use crate::judge;
+use protocol::{Record, SocksError};
 
 // `check` for a caller that has chosen the record, or has none.
 pub fn check_chosen(
     local_dns: bool,
     host: &[u8],
-    port: Port,
-    chosen: Lookup,
+    port: Option<u16>,
+    chosen: Option<Record>,
     capture: &[u8],
-) -> Answer
+) -> Result<(), SocksError>
     ensures { result ≡ check4 (record { local_dns = local_dns; host = host.now; port = port; records = records_of chosen }) capture.now }
 {
     let prepared = client_opening_v4::opening::prepare_chosen(local_dns, host, port, chosen);
@@ -22,7 +21,13 @@ pub fn check_chosen(
 }
 
 // Whether a capture is a lawful handshake of the session that `prepare` with the same arguments gives.
-pub fn check(local_dns: bool, host: &[u8], port: Port, records: &[Record], capture: &[u8]) -> Answer
+pub fn check(
+    local_dns: bool,
+    host: &[u8],
+    port: Option<u16>,
+    records: &[Record],
+    capture: &[u8],
+) -> Result<(), SocksError>
     ensures { result ≡ check4 (record { local_dns = local_dns; host = host.now; port = port; records = records.now }) capture.now }
 {
     let prepared = client_opening_v4::opening::prepare(local_dns, host, port, records);
@@ -33,26 +38,26 @@ pub fn check(local_dns: bool, host: &[u8], port: Port, records: &[Record], captu
 pub fn compare_chosen(
     local_dns: bool,
     host: &[u8],
-    port: Port,
-    chosen: Lookup,
+    port: Option<u16>,
+    chosen: Option<Record>,
     first: &[u8],
     second: &[u8],
-) -> Compared
+) -> Result<bool, SocksError>
     ensures { result ≡ compare4 (record { local_dns = local_dns; host = host.now; port = port; records = records_of chosen }) first.now second.now }
 {
     let prepared = client_opening_v4::opening::prepare_chosen(local_dns, host, port, chosen);
     judge::compare(prepared, first, second)
 }
 
-// The same of the first capture, and whether the second tells the same.
+// The same of the first capture, and whether the second is alike: both directions of the two join to the same bytes.
 pub fn compare(
     local_dns: bool,
     host: &[u8],
-    port: Port,
+    port: Option<u16>,
     records: &[Record],
     first: &[u8],
     second: &[u8],
-) -> Compared
+) -> Result<bool, SocksError>
     ensures { result ≡ compare4 (record { local_dns = local_dns; host = host.now; port = port; records = records.now }) first.now second.now }
 {
     let prepared = client_opening_v4::opening::prepare(local_dns, host, port, records);

@@ -5,7 +5,7 @@ use native.Mathlib.Omega.{arith}
 use mathlib.Core.Path.{◌≡◌, refl, ap, sym, subst, ◌∙◌}
 use mathlib.Core.Logic.{inl, inr}
 use mathlib.Core.Bool.{Bool, true, false, cond}
-use mathlib.Core.Option.{Option, none, some}
+use Rattle.std.specs.Prelude.{Option, None, Some}
 use mathlib.Core.List.{List, [], ◌∷◌, ◌++◌}
 use lib.ListN.{length, take, drop, length-append, length-drop, take-append-drop}
 use lib.Seq.{take-append_seam, drop-append_seam, get_or-drop, length-take-le}
@@ -26,8 +26,8 @@ first_same (b ∷ l ∷ bs) on on' h = rw (h (drop (length_by b l) bs) (omega (a
 within_same : (n m : ℕ) (c : List ℕ) → length c ≤ n → length c ≤ m → row_within n c ≡ row_within m c
 unfolding row_within
 within_same zero zero c p q = refl
-within_same zero (suc m) c p q = first_same c (λ more. none) (row_within m) (λ more l. absurd (omega arith))
-within_same (suc n) zero c p q = first_same c (row_within n) (λ more. none) (λ more l. absurd (omega arith))
+within_same zero (suc m) c p q = first_same c (λ more. None) (row_within m) (λ more l. absurd (omega arith))
+within_same (suc n) zero c p q = first_same c (row_within n) (λ more. None) (λ more l. absurd (omega arith))
 within_same (suc n) (suc m) c p q = first_same c (row_within n) (row_within m) (λ more l. within_same n m more (omega arith) (omega arith))
 
 pub row_first : (c : List ℕ) → row_of c ≡ first c row_of
@@ -64,11 +64,11 @@ first_entry : (d : Direction) (bs more : List ℕ) (on : List ℕ → Option (Li
 first_entry d bs more on h =
     rw (length_of d (length bs) h, direction_of d (length bs) h, le-leb (length bs) (length (bs ++ more)) (omega (arith, length-append bs more)), take-append_seam, drop-append_seam)
 
-pub row_is : {c : List ℕ} {es : List Entry} → Row c es → row_of c ≡ some es
+pub row_is : {c : List ℕ} {es : List Entry} → Row c es → row_of c ≡ Some es
 row_is C.none = row_first []
 row_is (C.next d bs {more} h r) = row_first _ ∙ first_entry d bs more row_of h ∙ ap (ahead (entry d bs)) (row_is r)
 
-pub past_is : {c : List ℕ} → RunsPast c → row_of c ≡ none
+pub past_is : {c : List ℕ} → RunsPast c → row_of c ≡ None
 past_is (C.header_cut b) = row_first (b ∷ [])
 past_is (C.bytes_cut d n bs h l) = row_first _ ∙ rw (length_of d n h, lt-leb n (length bs) l)
 past_is (C.next d bs {more} h r) = row_first _ ∙ first_entry d bs more row_of h ∙ ap (ahead (entry d bs)) (past_is r)
@@ -77,8 +77,8 @@ past_is (C.next d bs {more} h r) = row_first _ ∙ first_entry d bs more row_of 
 
 -- what the bytes are
 pub data Reads : List ℕ → Option (List Entry) → Type 0 where
-  is_row : {c : List ℕ} {es : List Entry} → Row c es → Reads c (some es)
-  is_past : {c : List ℕ} → RunsPast c → Reads c none
+  is_row : {c : List ℕ} {es : List Entry} → Row c es → Reads c (Some es)
+  is_past : {c : List ℕ} → RunsPast c → Reads c None
 
 reads_next : (d : Direction) (bs more : List ℕ) (r : Option (List Entry)) → length bs ≤ 32767 → Reads more r → Reads (header d (length bs) ++ (bs ++ more)) (ahead (entry d bs) r)
 reads_next d bs more _ h (is_row x) = is_row (C.next d bs h x)
@@ -95,7 +95,7 @@ reads_first (b ∷ l ∷ bs) on y f = go (leb n (length bs)) refl
     head : header (direction_by b) n ≡ b ∷ l ∷ []
     head = header_of b l (y 0) (y 1)
 
-    go : (t : Bool) → leb n (length bs) ≡ t → Reads (b ∷ l ∷ bs) (cond t (ahead (entry (direction_by b) (take n bs)) (on (drop n bs))) none)
+    go : (t : Bool) → leb n (length bs) ≡ t → Reads (b ∷ l ∷ bs) (cond t (ahead (entry (direction_by b) (take n bs)) (on (drop n bs))) None)
     go true e =
         let long = length-take-le n bs (leb-true n (length bs) e) in
         let small = length_small b l (y 0) (y 1) in
@@ -105,7 +105,7 @@ reads_first (b ∷ l ∷ bs) on y f = go (leb n (length bs)) refl
         (f (drop n bs) (omega (arith, length-drop n bs)) (λ i. rw (get_or-drop n bs i 0) (y (suc (suc (n + i)))))))
     go false e =
         let whole : header (direction_by b) n ++ bs ≡ b ∷ l ∷ bs = ap (λ (h : List ℕ). h ++ bs) head in
-        subst (λ (c : List ℕ). Reads c none) whole (is_past (C.bytes_cut (direction_by b) n bs (length_small b l (y 0) (y 1)) (leb-false n (length bs) e)))
+        subst (λ (c : List ℕ). Reads c None) whole (is_past (C.bytes_cut (direction_by b) n bs (length_small b l (y 0) (y 1)) (leb-false n (length bs) e)))
 
 reads_within : (n : ℕ) (c : List ℕ) → length c ≤ n → Bytes c → Reads c (row_of c)
 reads_within zero c h y = rw (row_first c) (reads_first c row_of y (λ more l z. absurd (omega arith)))
@@ -116,10 +116,10 @@ reads c y = reads_within (length c) c (le_refl (length c)) y
 
 -- ---- one reading
 
-some_same : {x y : List Entry} → ◌≡◌ {A = Option (List Entry)} (some x) (some y) → x ≡ y
+some_same : {x y : List Entry} → ◌≡◌ {A = Option (List Entry)} (Some x) (Some y) → x ≡ y
 some_same e = cc
 
-none_some : {x : List Entry} → ◌≡◌ {A = Option (List Entry)} none (some x) → ⊥
+none_some : {x : List Entry} → ◌≡◌ {A = Option (List Entry)} None (Some x) → ⊥
 none_some e = let z : ◌≡◌ {A = ℕ} 0 1 = cc in absurd (omega arith)
 
 pub one_row : {c : List ℕ} {es fs : List Entry} → Row c es → Row c fs → es ≡ fs

@@ -5,13 +5,17 @@ use Rattle.protocol.specs.Bound.{Endpoint}
 use Rattle.protocol.specs.Opening.{Opening}
 use Rattle.protocol.specs.Machine.{machine}
 use Rattle.protocol.specs.Grammar.{Sequence}
+pub use Rattle.captures_spec.specs.declared.Direction.{Direction}
+use Rattle.captures_spec.specs.declared.Direction.TheVariants.{Sent, Received}
 
 -- ---- a row of entries
 
 -- from the client, or to it
-pub data Direction : Type 0 where
-  sent : Direction
-  received : Direction
+pattern abbrev pub sent : Direction
+sent = Sent
+
+pattern abbrev pub received : Direction
+received = Received
 
 pub record Entry : Type 0 where
   pub direction : Direction

@@ -1,6 +1,6 @@
 -- F-10 in handy forms, not to be believed: a capture read from its start.
 use Rattle.std.specs.Prelude.{ℕ, zero, suc, ◌+◌, ◌*◌, ◌%◌, Bool, cond, ◌&&◌, List, [], ◌∷◌, length, take, drop, leb}
-use Rattle.std.proofs.Math.Option.{Option, none, some}
+use Rattle.std.specs.Prelude.{Option, None, Some}
 use Rattle.protocol.specs.Bytes.{same}
 use Rattle.captures_spec.specs.Captures.{Direction, sent, received, Entry, entry, joined}
 
@@ -12,18 +12,18 @@ abbrev pub length_by : ℕ → ℕ → ℕ
 length_by b c = b % 128 * 256 + c
 
 abbrev pub ahead : Entry → Option (List Entry) → Option (List Entry)
-ahead e none = none
-ahead e (some es) = some (e ∷ es)
+ahead e None = None
+ahead e (Some es) = Some (e ∷ es)
 
 -- the first entry, and what is behind it
 abbrev pub first : List ℕ → (List ℕ → Option (List Entry)) → Option (List Entry)
-first [] on = some []
-first (b ∷ []) on = none
-first (b ∷ c ∷ bs) on = cond (leb (length_by b c) (length bs)) (ahead (entry (direction_by b) (take (length_by b c) bs)) (on (drop (length_by b c) bs))) none
+first [] on = Some []
+first (b ∷ []) on = None
+first (b ∷ c ∷ bs) on = cond (leb (length_by b c) (length bs)) (ahead (entry (direction_by b) (take (length_by b c) bs)) (on (drop (length_by b c) bs))) None
 
 -- by at most so many entries and one more
 unfoldable pub row_within : ℕ → List ℕ → Option (List Entry)
-row_within zero bs = first bs (λ more. none)
+row_within zero bs = first bs (λ more. None)
 row_within (suc n) bs = first bs (row_within n)
 
 -- the row of entries that bytes are, or none: an entry runs past the end

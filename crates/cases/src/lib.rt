@@ -2,8 +2,7 @@
 #![tactic(auto)]
 
 use input::places::{NOWHERE, byte_at, number_at, past, text_end};
-use lookup::Lookup;
-use protocol::{Family, Port, Record, SocksConfig, Version};
+use protocol::{Family, Record, SocksConfig, Version};
 use route_session::plan::{Part, Proxy};
 
 // The most output or buffer that can be lent.
@@ -21,11 +20,11 @@ pub fn has(flags: u8, bit: u8) -> bool {
     flags & bit != 0
 }
 
-fn port_of(flags: u8, number: u16) -> Port {
+fn port_of(flags: u8, number: u16) -> Option<u16> {
     if has(flags, 8) {
-        return Port::Given(number);
+        return Some(number);
     }
-    Port::Missing
+    None
 }
 
 // An opening, with the places of its texts, of the number of its records, and of what follows it.
@@ -33,7 +32,7 @@ fn port_of(flags: u8, number: u16) -> Port {
 pub struct Opening {
     pub version: u8,
     pub config: SocksConfig,
-    pub port: Port,
+    pub port: Option<u16>,
     pub host: usize,
     pub user: usize,
     pub password: usize,
@@ -114,21 +113,22 @@ fn record_at(s: &[u8], at: usize) -> Record {
 }
 
 // The record taken of those behind their number: the first, or the first of family four.
-pub fn chosen_at(s: &[u8], at: usize, four: bool) -> Lookup {
-    let mut chosen = lookup::none_found();
+pub fn chosen_at(s: &[u8], at: usize, four: bool) -> Option<Record> {
     let mut next = past(s, at, 1);
-    let count = byte_at(s, at);
-    for i in 0..count {
-        chosen = lookup::step(four, chosen, record_at(s, next));
+    for _ in 0..byte_at(s, at) {
+        let record = record_at(s, next);
+        if lookup::serves(four, record.family) {
+            return Some(record);
+        }
         next = past(s, next, 17);
     }
-    chosen
+    None
 }
 
 // A route, with the places of its host and of the number of its proxies.
 #[derive(Clone, Copy)]
 pub struct Target {
-    pub port: Port,
+    pub port: Option<u16>,
     pub host: usize,
     pub proxies: usize,
 }

@@ -7,7 +7,6 @@ ghost use Rattle.buffers.specs.hold.Held.{Finds, Binds};
 ghost use Rattle.client_delivery.specs.bound_address.Named.{last_of, Whole};
 
 use buffers::hold::{Found, Held, keep_found, stands};
-use buffers::write::{copy, least, wide};
 use protocol::{Address, AddressKind, Bound, NAME_V5, Reply};
 use reader::{byte, port_at};
 
@@ -16,15 +15,14 @@ fn in_proxy_res(held: &[u8], piece: &[u8]) -> Found
     requires { Whole Reply.ProxyRes (held.now ++ piece.now) }
     ensures { Finds 255 (proxy_bound (held.now ++ piece.now)) (held.now ++ piece.now) result }
 {
-    let atyp = byte(held, piece, 3);
-    if atyp == 0x01 {
-        return stands(AddressKind::Ipv4, 4, 4, port_at(held, piece, 8));
+    match byte(held, piece, 3) {
+        0x01 => stands(AddressKind::Ipv4, 4, 4, port_at(held, piece, 8)),
+        0x04 => stands(AddressKind::Ipv6, 4, 16, port_at(held, piece, 20)),
+        _ => {
+            let n = usize::from(byte(held, piece, 4));
+            stands(AddressKind::Domain, 5, n, port_at(held, piece, 5 + n))
+        }
     }
-    if atyp == 0x04 {
-        return stands(AddressKind::Ipv6, 4, 16, port_at(held, piece, 20));
-    }
-    let n = wide(byte(held, piece, 4));
-    stands(AddressKind::Domain, 5, n, port_at(held, piece, 5 + n))
 }
 
 // In a Response: the port ahead of the address.
@@ -41,9 +39,9 @@ fn find(reply: Reply, held: &[u8], piece: &[u8]) -> Found
     ensures { Finds 255 (bound_by (last_of reply) (held.now ++ piece.now)) (held.now ++ piece.now) result }
 {
     match reply {
-        Reply::NegotiationRes(method) => in_proxy_res(held, piece),
-        Reply::AuthenticationRes => in_proxy_res(held, piece),
-        Reply::ProxyRes => in_proxy_res(held, piece),
+        Reply::NegotiationRes(_) | Reply::AuthenticationRes | Reply::ProxyRes => {
+            in_proxy_res(held, piece)
+        }
         Reply::Response => in_response(held, piece),
     }
 }
@@ -54,9 +52,8 @@ pub fn keep(reply: Reply, hold: &mut [u8], n: usize, piece: &[u8], at: usize) ->
     requires { (length hold.old ≡ 261) × (n ≤ 261) × (at ≤ n + length piece.now) × Whole reply (drop at (take n hold.old ++ piece.now)) }
     ensures { Binds (bound_by (last_of reply) (drop at (take n hold.old ++ piece.now))) hold.old result hold.new }
 {
-    let a = least(at, n);
-    let b = at - a;
-    let found = find(reply, &hold[a..n], &piece[b..]);
+    let a = at.min(n);
+    let found = find(reply, &hold[a..n], &piece[at - a..]);
     keep_found(found, hold, n, piece, at)
 }
 
@@ -64,14 +61,13 @@ pub fn keep(reply: Reply, hold: &mut [u8], n: usize, piece: &[u8], at: usize) ->
 pub fn address(bound: Bound, held: &[u8]) -> Address
     ensures { result ≡ address_of (endpoint (kind_of bound.kind held.now) bound.port) }
 {
-    let kind = bound.kind;
-    let n = least(held.len(), NAME_V5);
-    let mut bytes = [0u8; NAME_V5];
-    copy(&mut bytes, 0, &held[..n]);
+    let n = held.len().min(NAME_V5);
+    let mut bytes = [0; NAME_V5];
+    bytes[..n].copy_from_slice(&held[..n]);
     Address {
-        kind: kind,
+        kind: bound.kind,
         len: n as u8,
-        bytes: bytes,
+        bytes,
         port: bound.port,
     }
 }
@@ -80,11 +76,10 @@ pub fn address(bound: Bound, held: &[u8]) -> Address
 pub fn unbound() -> Address
     ensures { result ≡ address_of unbound }
 {
-    let bytes = [0u8; NAME_V5];
     Address {
         kind: AddressKind::Ipv4,
         len: 4,
-        bytes: bytes,
+        bytes: [0; NAME_V5],
         port: 0,
     }
 }

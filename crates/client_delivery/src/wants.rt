@@ -1,11 +1,9 @@
 // How many bytes may be read without reading past the handshake, by what is held of the reply in turn.
 ghost use Rattle.std.specs.Prelude.{◌≡◌, cond, [], ◌+◌, ◌≤◌, length, take};
 ghost use Rattle.protocol.specs.declared.Reply.TheVariants as Reply;
-ghost use Rattle.client_stages.specs.declared.due.Stage.TheVariants as Stage;
 ghost use Rattle.client_delivery.specs.wants.Wants.{begins_with, may_connect, size_from, proxy_least, lacking, behind, wants_for, wants_at};
 ghost use Rattle.client_delivery.specs.wants.Still.{ends_within, name_still, type_still, proxy_still, response_still, good_still, still_at};
 
-use buffers::write::{least, wide};
 use client_stages::due::Stage;
 use protocol::{AuthMethod, HOLD, Reply, Utf8State};
 use replies::verdicts::rest_size;
@@ -15,69 +13,51 @@ use utf8::text::scanned;
 fn begins_with(b: u8, held: &[u8]) -> bool
     ensures { result ≡ begins_with b held.now }
 {
-    if held.len() == 0 {
-        return true;
-    }
-    held[0] == b
+    held.is_empty() || held[0] == b
 }
 
 // A ProxyRes may still tell success.
 fn may_connect(held: &[u8]) -> bool
     ensures { result ≡ may_connect held.now }
 {
-    if held.len() < 2 {
-        return begins_with(0x05, held);
-    }
-    held[0] == 0x05 && held[1] == 0x00
+    begins_with(0x05, held) && (held.len() < 2 || held[1] == 0x00)
 }
 
 // How many bytes a ProxyRes has at the least, where its type has come and no byte behind it.
 fn size_from(atyp: u8, may: bool) -> usize
     ensures { result ≡ size_from atyp may }
 {
-    if atyp == 0x01 {
-        return 10;
+    match atyp {
+        0x01 => 10,
+        0x04 => 22,
+        0x03 if may => 8,
+        _ => 5,
     }
-    if atyp == 0x04 {
-        return 22;
-    }
-    if atyp != 0x03 {
-        return 5;
-    }
-    if may {
-        return 8;
-    }
-    5
 }
 
 // How many bytes a ProxyRes has at the least once it is decided.
 fn proxy_least(held: &[u8]) -> usize
     ensures { (result ≡ proxy_least held.now) × (result ≤ 262) }
 {
-    let n = held.len();
-    if 5 <= n {
-        return 5 + rest_size(held[3], held[4]);
+    match held.len() {
+        0..=3 => {
+            if may_connect(held) {
+                8
+            } else if held.len() < 3 {
+                3
+            } else {
+                5
+            }
+        }
+        4 => size_from(held[3], may_connect(held)),
+        _ => 5 + rest_size(held[3], held[4]),
     }
-    let may = may_connect(held);
-    if n == 4 {
-        return size_from(held[3], may);
-    }
-    if may {
-        return 8;
-    }
-    if n < 3 {
-        return 3;
-    }
-    5
 }
 
 fn lacking(size: usize, held: usize) -> usize
     ensures { (result ≡ lacking size held) × (result ≤ size + 1) }
 {
-    if held < size {
-        return size - held;
-    }
-    1
+    if held < size { size - held } else { 1 }
 }
 
 // The shortest replies behind one that awaits others.
@@ -97,10 +77,7 @@ fn with_behind(b: u8, held: &[u8], behind: usize) -> usize
     ensures { (result ≡ lacking 2 (length held.now) + cond (begins_with b held.now) behind 0) × (result ≤ 13) }
 {
     let n = lacking(2, held.len());
-    if begins_with(b, held) {
-        return n + behind;
-    }
-    n
+    if begins_with(b, held) { n + behind } else { n }
 }
 
 fn wants_for(reply: Reply, held: &[u8]) -> usize
@@ -114,26 +91,14 @@ fn wants_for(reply: Reply, held: &[u8]) -> usize
     }
 }
 
-fn wants_awaiting(reply: Reply, started: bool, held: usize, hold: &[u8]) -> usize
-    requires { length hold.now ≡ 261 }
-    ensures { (result ≡ wants_at (Stage.Awaiting reply) started (take held hold.now)) × (result ≤ 263) }
-{
-    if !started {
-        return 0;
-    }
-    let n = least(held, HOLD);
-    wants_for(reply, &hold[..n])
-}
-
 // At a stage, with the first bytes of the hold held.
 pub fn wants(stage: Stage, started: bool, held: usize, hold: &[u8]) -> usize
     requires { length hold.now ≡ 261 }
     ensures { (result ≡ wants_at stage started (take held hold.now)) × (result ≤ 263) }
 {
     match stage {
-        Stage::Awaiting(reply) => wants_awaiting(reply, started, held, hold),
-        Stage::Open => 0,
-        Stage::Failed(error) => 0,
+        Stage::Awaiting(reply) if started => wants_for(reply, &hold[..held.min(HOLD)]),
+        _ => 0,
     }
 }
 
@@ -144,21 +109,10 @@ fn ends_within(state: Utf8State, n: usize) -> bool
     match state {
         Utf8State::Boundary => true,
         Utf8State::Tail1 => 1 <= n,
-        Utf8State::Tail2 => 2 <= n,
-        Utf8State::Tail3 => 3 <= n,
-        Utf8State::AfterE0 => 2 <= n,
-        Utf8State::AfterEd => 2 <= n,
-        Utf8State::AfterF0 => 3 <= n,
-        Utf8State::AfterF4 => 3 <= n,
+        Utf8State::Tail2 | Utf8State::AfterE0 | Utf8State::AfterEd => 2 <= n,
+        Utf8State::Tail3 | Utf8State::AfterF0 | Utf8State::AfterF4 => 3 <= n,
         Utf8State::Invalid => false,
     }
-}
-
-// Where a name of so many bytes ends in a ProxyRes.
-fn name_end(len: u8) -> usize
-    ensures { (result ≡ 5 + len) × (result ≤ 260) }
-{
-    5 + wide(len)
 }
 
 // The name of a ProxyRes, as far as it came, can still be UTF-8.
@@ -166,8 +120,8 @@ fn name_still(held: &[u8]) -> bool
     requires { 5 ≤ length held.now }
     ensures { result ≡ name_still held.now }
 {
-    let end = name_end(held[4]);
-    let to = least(end, held.len());
+    let end = 5 + usize::from(held[4]);
+    let to = end.min(held.len());
     let state = scanned(Utf8State::Boundary, &held[5..to]);
     ends_within(state, end - to)
 }
@@ -177,73 +131,35 @@ fn type_still(held: &[u8]) -> bool
     requires { 4 ≤ length held.now }
     ensures { result ≡ type_still held.now }
 {
-    let atyp = held[3];
-    if atyp == 0x01 {
-        return true;
+    match held[3] {
+        0x01 | 0x04 => true,
+        0x03 => held.len() == 4 || name_still(held),
+        _ => false,
     }
-    if atyp == 0x04 {
-        return true;
-    }
-    if atyp != 0x03 {
-        return false;
-    }
-    if held.len() == 4 {
-        return true;
-    }
-    name_still(held)
 }
 
 fn proxy_still(held: &[u8]) -> bool
     ensures { result ≡ proxy_still held.now }
 {
-    if !may_connect(held) {
-        return false;
-    }
-    if held.len() < 4 {
-        return true;
-    }
-    type_still(held)
+    may_connect(held) && (held.len() < 4 || type_still(held))
 }
 
 fn response_still(held: &[u8]) -> bool
     ensures { result ≡ response_still held.now }
 {
-    if !begins_with(0x00, held) {
-        return false;
-    }
-    if held.len() < 2 {
-        return true;
-    }
-    held[1] == 0x5A
-}
-
-fn method_still(method: AuthMethod, held: &[u8]) -> bool
-    ensures { result ≡ good_still (Reply.NegotiationRes method) held.now }
-{
-    match method {
-        AuthMethod::NoAuth => begins_with(0x05, held),
-        AuthMethod::UserPass => begins_with(0x05, held),
-        AuthMethod::NoneAcceptable => false,
-    }
+    begins_with(0x00, held) && (held.len() < 2 || held[1] == 0x5A)
 }
 
 fn good_still(reply: Reply, held: &[u8]) -> bool
     ensures { result ≡ good_still reply held.now }
 {
     match reply {
-        Reply::NegotiationRes(method) => method_still(method, held),
+        Reply::NegotiationRes(AuthMethod::NoneAcceptable) => false,
+        Reply::NegotiationRes(_) => begins_with(0x05, held),
         Reply::AuthenticationRes => begins_with(0x01, held),
         Reply::ProxyRes => proxy_still(held),
         Reply::Response => response_still(held),
     }
-}
-
-fn awaiting_still(reply: Reply, held: usize, hold: &[u8]) -> bool
-    requires { length hold.now ≡ 261 }
-    ensures { result ≡ good_still reply (take held hold.now) }
-{
-    let n = least(held, HOLD);
-    good_still(reply, &hold[..n])
 }
 
 // Whether some stream still opens a session at a stage, with the first bytes of the hold held.
@@ -252,9 +168,8 @@ pub fn opens_still(stage: Stage, held: usize, hold: &[u8]) -> bool
     ensures { result ≡ still_at stage (take held hold.now) }
 {
     match stage {
-        Stage::Awaiting(reply) => awaiting_still(reply, held, hold),
-        Stage::Open => false,
-        Stage::Failed(error) => false,
+        Stage::Awaiting(reply) => good_still(reply, &hold[..held.min(HOLD)]),
+        Stage::Open | Stage::Failed(_) => false,
     }
 }
 
@@ -265,7 +180,6 @@ pub fn shortest(reply: Reply) -> usize
     match reply {
         Reply::NegotiationRes(method) => 2 + behind_method(method),
         Reply::AuthenticationRes => 10,
-        Reply::ProxyRes => 8,
-        Reply::Response => 8,
+        Reply::ProxyRes | Reply::Response => 8,
     }
 }

@@ -2,4 +2,3 @@ pub mod Targets
 pub mod KeptBy
 pub mod Accepting
 pub mod Records
-pub mod Called

@@ -1,7 +1,7 @@
 // 01, "Opening v5" and "v5 requests", and F-7: what an accepted opening over SOCKS5 keeps: its requests, written one behind the other.
 ghost use Rattle.std.specs.Prelude.{◌≡◌, true, ◌+◌, ◌≤◌, length, replicate};
 ghost use Rattle.protocol.specs.declared.AddressKind.TheVariants as AddressKind;
-ghost use Rattle.protocol.specs.declared.Answer.TheVariants as Answer;
+ghost use Rattle.protocol.specs.Answers.{Accepted};
 ghost use Rattle.protocol.specs.Requests.{proxy_req};
 ghost use Rattle.protocol.specs.Opening.{v5, credentials_if, port_number};
 ghost use Rattle.buffers.specs.write.Written.{Wrote};
@@ -13,7 +13,7 @@ ghost use Rattle.client_opening_v5.specs.kept.Accepted.{Short5, credentials_req}
 use address_text::ipv4::AddressText;
 use client_opening::common::Begun;
 use client_stages::due::{Lengths, Stage};
-use protocol::{AddressKind, Answer, AuthMethod, Port, Reply, SocksConfig};
+use protocol::{AddressKind, AuthMethod, Reply, SocksConfig};
 use requests::v5::{put_authentication_req, put_negotiation_req, put_proxy_req};
 
 fn method_of(auth: bool) -> AuthMethod
@@ -49,10 +49,9 @@ fn put_proxy(bytes: &mut [u8], at: usize, asked: AddressText, text: &[u8], port:
     ensures { Wrote bytes.old at (proxy_req (target5 asked text.now) port) result bytes.new }
 {
     let kind = asked.kind;
-    let ip = asked.bytes;
     match kind {
-        AddressKind::Ipv4 => put_proxy_req(bytes, at, kind, &ip[..4], port),
-        AddressKind::Ipv6 => put_proxy_req(bytes, at, kind, &ip, port),
+        AddressKind::Ipv4 => put_proxy_req(bytes, at, kind, &asked.bytes[..4], port),
+        AddressKind::Ipv6 => put_proxy_req(bytes, at, kind, &asked.bytes, port),
         AddressKind::Domain => put_proxy_req(bytes, at, kind, text, port),
     }
 }
@@ -87,12 +86,12 @@ pub fn accept(
     config: SocksConfig,
     text: &[u8],
     asked: AddressText,
-    port: Port,
+    port: Option<u16>,
     user: &[u8],
     password: &[u8],
 ) -> Begun
     requires { (bytes.old ≡ replicate 1024 0) × Short5 config.proxy_auth user.now password.now asked.kind text.now }
-    ensures { prepared_with result bytes.new ≡ prepared_by Answer.Accepted (v5 (credentials_if config.proxy_auth user.now password.now) (target5 asked text.now) (port_number port) config.optimistic) }
+    ensures { prepared_with result bytes.new ≡ prepared_by Accepted (v5 (credentials_if config.proxy_auth user.now password.now) (target5 asked text.now) (port_number port) config.optimistic) }
 {
     let lengths = keep(
         bytes,
@@ -104,8 +103,8 @@ pub fn accept(
         password,
     );
     Begun {
-        answer: Answer::Accepted,
+        answer: Ok(()),
         stage: Stage::Awaiting(Reply::NegotiationRes(method_of(config.proxy_auth))),
-        lengths: lengths,
+        lengths,
     }
 }

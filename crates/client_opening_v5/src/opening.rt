@@ -1,5 +1,5 @@
 // 01, "Opening v5" and "v5 requests", and F-7: preparing a session over SOCKS5.
-ghost use Rattle.std.specs.Prelude.{◌≡◌, ◌&&◌, replicate};
+ghost use Rattle.std.specs.Prelude.{◌≡◌, cond, None, replicate};
 ghost use Rattle.protocol.specs.Host.{strip};
 ghost use Rattle.protocol.specs.AddressReading.{destination_of};
 ghost use Rattle.protocol.specs.Opening.{v5, credentials_if, port_number};
@@ -13,11 +13,11 @@ ghost use Rattle.client_opening.specs.common.Begun.{prepared_with};
 use crate::kept::accept;
 use address_text::ipv4::AddressText;
 use client_opening::checks::check5;
-use client_opening::common::Begun;
-use client_opening::host::{read_host, wanted5};
+use client_opening::common::{Begun, asked, prepared, refuse};
+use client_opening::host::{looks_up, read_host};
 use client_session::Prepared;
-use lookup::{Lookup, choose};
-use protocol::{Answer, Port, REQUESTS, Record, SocksConfig};
+use lookup::choose;
+use protocol::{NAME_V5, REQUESTS, Record, SocksConfig};
 
 // The checks, and what an accepted opening keeps.
 pub fn begin(
@@ -25,26 +25,29 @@ pub fn begin(
     config: SocksConfig,
     host: &[u8],
     read: AddressText,
-    port: Port,
+    port: Option<u16>,
     user: &[u8],
     password: &[u8],
-    chosen: Lookup,
+    chosen: Option<Record>,
 ) -> Begun
     requires { bytes.old ≡ replicate 1024 0 }
-    ensures { prepared_with result bytes.new ≡ prepared_by (check_by5 config (strip host.now) read.kind port user.now password.now (records_of chosen)) (v5 (credentials_if config.proxy_auth user.now password.now) (target5 (asked_text read (config.local_dns && chosen.found) chosen.first) (strip host.now)) (port_number port) config.optimistic) }
+    ensures { prepared_with result bytes.new ≡ prepared_by (check_by5 config (strip host.now) read.kind port user.now password.now (records_of chosen)) (v5 (credentials_if config.proxy_auth user.now password.now) (target5 (asked_text read (cond config.local_dns chosen None)) (strip host.now)) (port_number port) config.optimistic) }
 {
     let text = address_text::host::strip_ipv6_brackets(host);
-    let kind = read.kind;
-    let first = chosen.first;
-    let asked = client_opening::common::asked(
-        read,
-        client_opening::common::both(config.local_dns, chosen.found),
-        first,
-    );
-    let answer = check5(config, text, kind, port, user, password, chosen);
-    match answer {
-        Answer::Accepted => accept(bytes, config, text, asked, port, user, password),
-        Answer::Refused(error) => client_opening::common::refuse(error),
+    match check5(config, text, read.kind, port, user, password, chosen) {
+        Ok(()) => {
+            let found = if config.local_dns { chosen } else { None };
+            accept(
+                bytes,
+                config,
+                text,
+                asked(read, found),
+                port,
+                user,
+                password,
+            )
+        }
+        Err(error) => refuse(error),
     }
 }
 
@@ -53,26 +56,26 @@ fn prepare_read(
     config: SocksConfig,
     host: &[u8],
     read: AddressText,
-    port: Port,
+    port: Option<u16>,
     user: &[u8],
     password: &[u8],
-    chosen: Lookup,
+    chosen: Option<Record>,
 ) -> Prepared
     ensures { read ≡ address_text (destination_of (strip host.now)) → result ≡ prepare5 (record { config = config; host = host.now; port = port; user = user.now; password = password.now; records = records_of chosen }) }
 {
     let mut bytes = [0u8; REQUESTS];
     let begun = begin(&mut bytes, config, host, read, port, user, password, chosen);
-    client_opening::common::prepared(begun, bytes)
+    prepared(begun, bytes)
 }
 
 // `prepare` for a caller that has chosen the record, or has none.
 pub fn prepare_chosen(
     config: SocksConfig,
     host: &[u8],
-    port: Port,
+    port: Option<u16>,
     user: &[u8],
     password: &[u8],
-    chosen: Lookup,
+    chosen: Option<Record>,
 ) -> Prepared
     ensures { result ≡ prepare5 (record { config = config; host = host.now; port = port; user = user.now; password = password.now; records = records_of chosen }) }
 {
@@ -84,7 +87,7 @@ pub fn prepare_chosen(
 pub fn prepare(
     config: SocksConfig,
     host: &[u8],
-    port: Port,
+    port: Option<u16>,
     user: &[u8],
     password: &[u8],
     records: &[Record],
@@ -92,7 +95,10 @@ pub fn prepare(
     ensures { result ≡ prepare5 (record { config = config; host = host.now; port = port; user = user.now; password = password.now; records = records.now }) }
 {
     let read = read_host(host);
-    let most = wanted5(config, host, read);
-    let chosen = choose(records, most, false);
+    let chosen = if looks_up(config.local_dns, host, read, NAME_V5) {
+        choose(records, false)
+    } else {
+        None
+    };
     prepare_read(config, host, read, port, user, password, chosen)
 }

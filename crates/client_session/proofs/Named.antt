@@ -1,9 +1,9 @@
 -- F-1: what a session that is open hands out of its bound address, and one that is not.
-use Rattle.std.proofs.Common.{◌≡◌, ℕ, min, Bool, true, false, ◌↔◌, List, length, take, sym, refl, ap, ◌∙◌, true≢false, zero-le, arith}
+use Rattle.std.proofs.Common.{◌≡◌, ℕ, min, cond, leb, ◌++◌, drop, Bool, true, false, ◌↔◌, List, length, take, sym, refl, ap, ◌∙◌, true≢false, arith, Result, Err}
 use Rattle.protocol.specs.declared.Address.{Address}
 use Rattle.protocol.specs.declared.Bound.{Bound}
-use Rattle.protocol.specs.declared.Answer.TheVariants.{Refused}
-use Rattle.protocol.specs.declared.SocksError.TheVariants.{NotOpen}
+use Rattle.protocol.specs.declared.SocksError.{SocksError}
+use Rattle.protocol.specs.declared.SocksError.TheVariants.{ShortText, NotOpen}
 use Rattle.protocol.specs.Requests.{kind_of}
 use Rattle.protocol.specs.Bound.{endpoint, unbound, address_of}
 use Rattle.protocol.specs.declared.Outcome.TheVariants as outcomes
@@ -11,9 +11,9 @@ use Rattle.protocol.specs.Client.{outcome_of, bound_in}
 use Rattle.client_stages.specs.declared.due.Stage.{Stage}
 use Rattle.client_stages.specs.declared.due.Stage.TheVariants.{Awaiting, Open, Failed}
 use Rattle.client_stages.specs.due.Stages.{view_at}
-use Rattle.address_format.specs.declared.endpoint.Written.{Written}
 use Rattle.address_format.specs.endpoint.Text.{bound_text}
-use Rattle.address_format.specs.endpoint.Written.{write_text, TextResult}
+use Rattle.protocol.specs.Answers.{Accepted, Refused}
+use Rattle.address_format.specs.endpoint.Written.{TextCall, unwritten, write_text, with_length, TextResult}
 use Rattle.client_session.specs.declared.Session.{Session}
 use Rattle.client_stages.specs.outcome.Told.{is_open}
 use Rattle.client_session.specs.Session.{held_bytes, outcome, bound, write_bound}
@@ -46,10 +46,25 @@ module _ (s : Session) {o : Bool} (e : o ≡ is_open s.stage) where
   pub bound_is : o ≡ true → {n : ℕ} → n ≡ min s.held 261 → length s.hold ≡ 261 → address_of (endpoint (kind_of s.bound.kind (take n s.hold)) s.bound.port) ≡ bound s
   bound_is q p l = rw (p, take_least s.held s.hold l) (ap address_of (named s.stage s.bound (take s.held s.hold) (sym e ∙ q)))
 
-  pub not_written : o ≡ false → (buffer : List ℕ) → TextResult (write_bound s buffer) (record { answer = Refused NotOpen; len = 0 }) buffer
+  pub not_written : o ≡ false → (buffer : List ℕ) → TextResult (write_bound s buffer) (Err NotOpen) buffer
   unfolding write_bound
-  not_written q buffer = rw (sym e ∙ q) (record { returned = refl; buffer = refl; inside = zero-le })
+  not_written q buffer = rw (sym e ∙ q) (record { returned = refl; buffer = refl; inside = tt })
 
-  pub written : o ≡ true → (buffer : List ℕ) {buffer' : List ℕ} {a : Address} {r : Written} → a ≡ bound s → TextResult (write_text (bound_text a) buffer) r buffer' → TextResult (write_bound s buffer) r buffer'
+  pub written : o ≡ true → (buffer : List ℕ) {buffer' : List ℕ} {a : Address} {r : Result ℕ SocksError} → a ≡ bound s → TextResult (write_text (bound_text a) buffer) r buffer' → TextResult (write_bound s buffer) r buffer'
   unfolding write_bound
   written q buffer p w = rw (sym e ∙ q, ← p) w
+
+-- a text that is refused has no length
+abbrev texted : List ℕ → List ℕ → Bool → Bool → TextCall
+texted t buffer a b = cond a (cond b (record { answer = Accepted; len = length t; buffer = t ++ drop (length t) buffer }) (unwritten ShortText buffer)) (unwritten NotOpen buffer)
+
+refused_by : (t buffer : List ℕ) (a b : Bool) {e : SocksError} → Err e ≡ with_length (texted t buffer a b).answer (texted t buffer a b).len
+    → ((texted t buffer a b).answer ≡ Refused e) × ((texted t buffer a b).len ≡ 0)
+refused_by t buffer true true h = absurd (cc)
+refused_by t buffer true false h = (cc, refl)
+refused_by t buffer false b h = (cc, refl)
+
+pub refused_empty : (s : Session) (buffer : List ℕ) {e : SocksError} → Err e ≡ with_length (write_bound s buffer).answer (write_bound s buffer).len
+    → ((write_bound s buffer).answer ≡ Refused e) × ((write_bound s buffer).len ≡ 0)
+unfolding write_bound
+refused_empty s buffer h = refused_by (bound_text (bound s)) buffer (is_open s.stage) (leb (length (bound_text (bound s))) (length buffer)) h

@@ -3,8 +3,7 @@ use Rattle.std.specs.Prelude.{◌≡◌, ℕ, ◌-◌, ◌≤◌, Bool, true, fa
 use Rattle.protocol.specs.declared.AuthMethod.TheVariants.{NoAuth, UserPass}
 use Rattle.protocol.specs.declared.SocksError.{SocksError}
 use Rattle.protocol.specs.declared.SocksError.TheVariants.{ShortOutput, UnexpectedEof, Settled, OutOfOrder}
-use Rattle.protocol.specs.declared.Answer as code
-use Rattle.protocol.specs.declared.Answer.TheVariants.{Accepted, Refused}
+use Rattle.protocol.specs.Answers as code
 use Rattle.protocol.specs.Numbers.{answer_number, outcome_number}
 use Rattle.protocol.specs.Bytes.{padded}
 use Rattle.protocol.specs.Bound.{unbound, bound_of}
@@ -28,7 +27,7 @@ abbrev pub Call : Type 0
 Call = Answer Session code.Answer
 
 abbrev pub refusal : SocksError → Session → List ℕ → Call
-refusal e s out = record { answer = Refused e; session = s; used = 0; sent = 0; output = out }
+refusal e s out = record { answer = code.Refused e; session = s; used = 0; sent = 0; output = out }
 
 -- ---- what a function of the code returns and leaves in the output, as a call says; with the bounds that a caller slices by
 
@@ -84,8 +83,8 @@ abbrev pub empty_session : SocksError → Session
 empty_session e = fresh (Failed e) nothing_kept
 
 abbrev pub prepared_by : code.Answer → Opening → Prepared
-prepared_by Accepted o = record { answer = Accepted; session = prepared_for o }
-prepared_by (Refused e) o = record { answer = Refused e; session = empty_session e }
+prepared_by code.Accepted o = record { answer = code.Accepted; session = prepared_for o }
+prepared_by (code.Refused e) o = record { answer = code.Refused e; session = empty_session e }
 
 unfoldable pub prepare5 : V5 → Prepared
 prepare5 a = prepared_by (check5 a) (opening5 a)
@@ -99,7 +98,7 @@ prepare4 a = prepared_by (check4 a) (opening4 a)
 abbrev pub starts : Session → List ℕ → List ℕ → Call
 starts s first out =
     record {
-      answer = Accepted;
+      answer = code.Accepted;
       session = record { stage = s.stage; started = true; held = s.held; hold = s.hold; bound = s.bound; attempts = s.attempts; requests = s.requests };
       used = 0;
       sent = length first;
@@ -118,7 +117,7 @@ start s out =
 abbrev pub moves : Session → SideFed → ℕ → List ℕ → Call
 moves s f n out =
     record {
-      answer = Accepted;
+      answer = code.Accepted;
       session = attempted n (packed s f.session);
       used = reached f - length (held_by (view s));
       sent = length f.sent;
@@ -127,7 +126,7 @@ moves s f n out =
 
 -- an empty piece changes nothing
 abbrev pub takes : Session → List ℕ → List ℕ → Call
-takes s [] out = record { answer = Accepted; session = s; used = 0; sent = 0; output = out }
+takes s [] out = record { answer = code.Accepted; session = s; used = 0; sent = 0; output = out }
 takes s (b ∷ bs) out = moves s (onward (side_of s) (view s) (b ∷ bs)) (attempts_by (side_of s) (view s) (b ∷ bs)) out
 
 unfoldable pub deliver : Session → List ℕ → List ℕ → Call
@@ -142,7 +141,7 @@ unfoldable pub end : Session → Call
 end s =
     cond (is_over (view s)) (refusal Settled s [])
     (cond (not s.started) (refusal OutOfOrder s [])
-    (record { answer = Accepted; session = packed s (ended (failed UnexpectedEof)); used = 0; sent = 0; output = [] }))
+    (record { answer = code.Accepted; session = packed s (ended (failed UnexpectedEof)); used = 0; sent = 0; output = [] }))
 
 -- ---- a number that a call does not meet, neither as its answer nor as the outcome of what it returns
 

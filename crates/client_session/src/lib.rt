@@ -2,20 +2,17 @@
 
 #![tactic(auto)]
 
-ghost use Rattle.std.specs.Prelude.{◌≡◌, ◌≤◌, length};
-ghost use Rattle.protocol.specs.declared.Answer.TheVariants as Answer;
+ghost use Rattle.std.specs.Prelude.{◌≡◌, ◌≤◌, length, IsOk};
 ghost use Rattle.protocol.specs.declared.Outcome.TheVariants as Outcome;
 ghost use Rattle.client_session.specs.Session.{outcome, wants, bound, write_bound};
 ghost use Rattle.address_format.specs.endpoint.Written.{TextResult};
 ghost use Rattle.client_session.specs.Calls.{StartResult, start, DeliverResult, deliver, ended_by, end};
 
-use address_format::endpoint::{Written, put_bound};
-use buffers::write::{copy, least};
-use client_delivery::delivery::{receive, send};
+use address_format::endpoint::put_bound;
+use client_delivery::delivery::{receive, send, unchanged};
 use client_stages::due::{Requests, Stage};
 use client_stages::outcome::is_open;
-use protocol::{Address, Answer, Bound, HOLD, Outcome, SocksError};
-use std::num::wrapping_add_u64;
+use protocol::{Address, Bound, HOLD, Outcome, SocksError};
 
 // What matters when. Prepared, which is awaiting and not started: `requests`, of which a start sends the first. Awaiting and started: the
 // first `held` bytes of `hold`, which are the undecided rest of a reply, and those of `requests` that are still due. Open: the first `held`
@@ -32,30 +29,34 @@ pub struct Session {
     pub requests: Requests,
 }
 
+// Answer and session by value, also on a refusal: each step hands the session back (01, "Where to use each form").
 #[derive(Clone, Copy)]
 pub struct Prepared {
-    pub answer: Answer,
+    pub answer: Result<(), SocksError>,
     pub session: Session,
 }
 
+// as `Prepared`
 #[derive(Clone, Copy)]
 pub struct Started {
-    pub answer: Answer,
+    pub answer: Result<(), SocksError>,
     pub sent: usize,
     pub session: Session,
 }
 
+// as `Prepared`
 #[derive(Clone, Copy)]
 pub struct Delivered {
-    pub answer: Answer,
+    pub answer: Result<(), SocksError>,
     pub used: usize,
     pub sent: usize,
     pub session: Session,
 }
 
+// as `Prepared`
 #[derive(Clone, Copy)]
 pub struct Ended {
-    pub answer: Answer,
+    pub answer: Result<(), SocksError>,
     pub session: Session,
 }
 
@@ -65,27 +66,27 @@ impl Session {
     pub fn start(self, out: &mut [u8]) -> Started
         ensures { StartResult (start self out.old) result out.new }
     {
-        let stage = self.stage;
-        let requests = self.requests;
-        let lengths = requests.lengths;
-        let bytes = requests.bytes;
-        let start = client_stages::start::start(stage, self.started, lengths, out.len());
-        let answer = start.answer;
-        let n = start.sent;
-        copy(out, 0, &bytes[..n]);
-        let hold = self.hold;
-        let bound = self.bound;
-        Started {
-            answer: answer,
-            sent: n,
-            session: Session {
-                stage: stage,
-                started: start.started,
-                held: self.held,
-                hold: hold,
-                bound: bound,
-                attempts: self.attempts,
-                requests: requests,
+        match client_stages::start::start(
+            self.stage,
+            self.started,
+            self.requests.lengths,
+            out.len(),
+        ) {
+            Ok(n) => {
+                out[..n].copy_from_slice(&self.requests.bytes[..n]);
+                Started {
+                    answer: Ok(()),
+                    sent: n,
+                    session: Session {
+                        started: true,
+                        ..self
+                    },
+                }
+            }
+            Err(error) => Started {
+                answer: Err(error),
+                sent: 0,
+                session: self,
             },
         }
     }
@@ -95,38 +96,35 @@ impl Session {
     pub fn deliver(self, piece: &[u8], out: &mut [u8]) -> Delivered
         ensures { DeliverResult (deliver self piece.now out.old) piece.now result out.new }
     {
-        let stage = self.stage;
+        // copies, and one exit: with `..self` or two exits the compiler copies the session more than once
         let requests = self.requests;
-        let lengths = requests.lengths;
         let mut hold = self.hold;
-        let bound = self.bound;
-        let received = receive(
-            stage,
+        let (answer, taken) = match receive(
+            self.stage,
             self.started,
             self.held,
-            lengths,
+            requests.lengths,
             &mut hold,
             piece,
             out.len(),
-            bound,
-        );
-        let answer = received.answer;
-        let taken = received.taken;
-        send(requests, taken.from, taken.sent, out);
-        let next = taken.stage;
-        let after = taken.bound;
+            self.bound,
+        ) {
+            Ok(taken) => (Ok(()), taken),
+            Err(error) => (Err(error), unchanged(self.stage, self.held, self.bound)),
+        };
+        send(&requests, taken.from, taken.sent, out);
         Delivered {
-            answer: answer,
+            answer,
             used: taken.used,
             sent: taken.sent,
             session: Session {
-                stage: next,
+                stage: taken.stage,
                 started: self.started,
                 held: taken.held,
-                hold: hold,
-                bound: after,
-                attempts: wrapping_add_u64(self.attempts, taken.attempts),
-                requests: requests,
+                hold,
+                bound: taken.bound,
+                attempts: self.attempts.wrapping_add(taken.attempts),
+                requests,
             },
         }
     }
@@ -135,23 +133,18 @@ impl Session {
     pub fn end(self) -> Ended
         ensures { result ≡ ended_by (end self) }
     {
-        let stage = self.stage;
-        let ending = client_stages::outcome::end(stage, self.started, self.held);
-        let answer = ending.answer;
-        let last = ending.stage;
-        let hold = self.hold;
-        let bound = self.bound;
-        let requests = self.requests;
-        Ended {
-            answer: answer,
-            session: Session {
-                stage: last,
-                started: self.started,
-                held: ending.held,
-                hold: hold,
-                bound: bound,
-                attempts: self.attempts,
-                requests: requests,
+        match client_stages::outcome::end(self.stage, self.started) {
+            Ok(stage) => Ended {
+                answer: Ok(()),
+                session: Session {
+                    stage,
+                    held: 0,
+                    ..self
+                },
+            },
+            Err(error) => Ended {
+                answer: Err(error),
+                session: self,
             },
         }
     }
@@ -160,8 +153,7 @@ impl Session {
     pub fn outcome(self) -> Outcome
         ensures { result ≡ outcome self }
     {
-        let stage = self.stage;
-        client_stages::outcome::outcome(stage)
+        client_stages::outcome::outcome(self.stage)
     }
 
     // How many bytes may be read without reading past the handshake: up to so many, never wait for so many. 0 unless the session is started
@@ -169,37 +161,28 @@ impl Session {
     pub fn wants(self) -> usize
         ensures { result ≡ wants self }
     {
-        let stage = self.stage;
-        let hold = self.hold;
-        client_delivery::wants::wants(stage, self.started, self.held, &hold)
+        client_delivery::wants::wants(self.stage, self.started, self.held, &self.hold)
     }
 
     // The address and port that the proxy's last reply named; of a session that is not open IPv4 zeros and port 0.
     pub fn bound(self) -> Address
         ensures { result ≡ bound self }
     {
-        let stage = self.stage;
-        if !is_open(stage) {
+        if !is_open(self.stage) {
             return client_delivery::bound_address::unbound();
         }
-        let hold = self.hold;
-        let kept = self.bound;
-        let n = least(self.held, HOLD);
-        client_delivery::bound_address::address(kept, &hold[..n])
+        let n = self.held.min(HOLD);
+        client_delivery::bound_address::address(self.bound, &self.hold[..n])
     }
 
     // The bound address as text, at the buffer's start. Refused if the session is not open, or the buffer is shorter than the text, which has
     // at most 261 bytes.
-    pub fn bound_text(self, text: &mut [u8]) -> Written
+    pub fn bound_text(self, text: &mut [u8]) -> Result<usize, SocksError>
         ensures text_result { TextResult (write_bound self text.old) result text.new }
-        ensures answer_value { outcome self ≡ Outcome.Open → 261 ≤ length text.old → result.answer ≡ Answer.Accepted }
+        ensures enough { outcome self ≡ Outcome.Open → 261 ≤ length text.old → IsOk result }
     {
-        let stage = self.stage;
-        if !is_open(stage) {
-            return Written {
-                answer: Answer::Refused(SocksError::NotOpen),
-                len: 0,
-            };
+        if !is_open(self.stage) {
+            return Err(SocksError::NotOpen);
         }
         put_bound(self.bound(), text)
     }

@@ -1,9 +1,8 @@
 // 01, "The call: the session": what a session keeps to send, and how much of it a reply makes due.
 ghost use Rattle.std.specs.Prelude.{◌≡◌};
-ghost use Rattle.client_stages.specs.due.Due.{unless_gone, authentication_due, proxy_due, due_after_method, due_after, due_judged, due_from, authentication_first, is_user_pass};
+ghost use Rattle.client_stages.specs.due.Due.{unless_gone, authentication_due, proxy_due, due_after_method, due_after, due_judged, due_from, authentication_first};
 
-use buffers::write::least;
-use protocol::{AuthMethod, CONNECT, REQUESTS, Reply, SocksError, Verdict};
+use protocol::{AuthMethod, CONNECT, REQUESTS, Reply, SocksError};
 
 // Which reply a session waits for, or how it ended.
 #[derive(Clone, Copy)]
@@ -41,22 +40,19 @@ pub struct Due {
 fn unless_gone(optimistic: bool, len: usize) -> usize
     ensures { result ≡ unless_gone optimistic len }
 {
-    if optimistic {
-        return 0;
-    }
-    len
+    if optimistic { 0 } else { len }
 }
 
 fn authentication_due(lengths: Lengths) -> usize
     ensures { result ≡ authentication_due lengths }
 {
-    unless_gone(lengths.optimistic, least(lengths.authentication, 513))
+    unless_gone(lengths.optimistic, lengths.authentication.min(513))
 }
 
 fn proxy_due(lengths: Lengths) -> usize
     ensures { result ≡ proxy_due lengths }
 {
-    unless_gone(lengths.optimistic, least(lengths.proxy, CONNECT))
+    unless_gone(lengths.optimistic, lengths.proxy.min(CONNECT))
 }
 
 fn due_after_method(lengths: Lengths, method: AuthMethod) -> Due
@@ -88,11 +84,7 @@ fn due_after(lengths: Lengths, reply: Reply) -> Due
             stage: Stage::Awaiting(Reply::ProxyRes),
             len: proxy_due(lengths),
         },
-        Reply::ProxyRes => Due {
-            stage: Stage::Open,
-            len: 0,
-        },
-        Reply::Response => Due {
+        Reply::ProxyRes | Reply::Response => Due {
             stage: Stage::Open,
             len: 0,
         },
@@ -100,25 +92,15 @@ fn due_after(lengths: Lengths, reply: Reply) -> Due
 }
 
 // What a verdict makes due.
-pub fn due_judged(lengths: Lengths, reply: Reply, verdict: Verdict) -> Due
+pub fn due_judged(lengths: Lengths, reply: Reply, verdict: Result<(), SocksError>) -> Due
     ensures { result ≡ due_judged lengths reply verdict }
 {
     match verdict {
-        Verdict::Good => due_after(lengths, reply),
-        Verdict::Bad(error) => Due {
+        Ok(()) => due_after(lengths, reply),
+        Err(error) => Due {
             stage: Stage::Failed(error),
             len: 0,
         },
-    }
-}
-
-fn is_user_pass(method: AuthMethod) -> bool
-    ensures { result ≡ is_user_pass method }
-{
-    match method {
-        AuthMethod::NoAuth => false,
-        AuthMethod::UserPass => true,
-        AuthMethod::NoneAcceptable => false,
     }
 }
 
@@ -126,19 +108,14 @@ fn is_user_pass(method: AuthMethod) -> bool
 fn authentication_first(reply: Reply) -> bool
     ensures { result ≡ authentication_first reply }
 {
-    match reply {
-        Reply::NegotiationRes(method) => is_user_pass(method),
-        Reply::AuthenticationRes => false,
-        Reply::ProxyRes => false,
-        Reply::Response => false,
-    }
+    matches!(reply, Reply::NegotiationRes(AuthMethod::UserPass))
 }
 
 // Where among the bytes begins what becomes due from a reply on.
 pub fn due_from(lengths: Lengths, reply: Reply) -> usize
     ensures { result ≡ due_from lengths reply }
 {
-    let at = least(lengths.first, 3);
+    let at = lengths.first.min(3);
     if authentication_first(reply) {
         return at;
     }

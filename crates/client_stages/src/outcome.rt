@@ -4,19 +4,15 @@ ghost use Rattle.protocol.specs.declared.Bound.{Bound};
 ghost use Rattle.protocol.specs.Client.{outcome_of};
 ghost use Rattle.client_stages.specs.due.Stages.{view_at};
 ghost use Rattle.client_stages.specs.outcome.Told.{is_open};
-ghost use Rattle.client_stages.specs.outcome.Ends.{unended, end_awaiting, end_at};
+ghost use Rattle.client_stages.specs.outcome.Ends.{end_at};
 
 use crate::due::Stage;
-use protocol::{Answer, Outcome, SocksError};
+use protocol::{Outcome, SocksError};
 
 pub fn is_open(stage: Stage) -> bool
     ensures { result ≡ is_open stage }
 {
-    match stage {
-        Stage::Awaiting(reply) => false,
-        Stage::Open => true,
-        Stage::Failed(error) => false,
-    }
+    matches!(stage, Stage::Open)
 }
 
 // Whatever is held and bound.
@@ -24,52 +20,21 @@ pub fn outcome(stage: Stage) -> Outcome
     ensures { (b : Bound) (h : List ℕ) → result ≡ outcome_of (view_at stage b h) }
 {
     match stage {
-        Stage::Awaiting(reply) => Outcome::Waiting,
+        Stage::Awaiting(_) => Outcome::Waiting,
         Stage::Open => Outcome::Open,
         Stage::Failed(error) => Outcome::Failed(error),
     }
 }
 
-// What an end answers, and the stage and the number of held bytes behind it.
-#[derive(Clone, Copy)]
-pub struct Ending {
-    pub answer: Answer,
-    pub stage: Stage,
-    pub held: usize,
-}
-
-// The stream is not at its end for this session.
-fn unended(error: SocksError, stage: Stage, held: usize) -> Ending
-    ensures { result ≡ unended error stage held }
+// The stage behind the end of the stream: a session that waits, but not before its start, has failed.
+pub fn end(stage: Stage, started: bool) -> Result<Stage, SocksError>
+    ensures { result ≡ end_at stage started }
 {
-    Ending {
-        answer: Answer::Refused(error),
-        stage: stage,
-        held: held,
+    if !matches!(stage, Stage::Awaiting(_)) {
+        return Err(SocksError::Settled);
     }
-}
-
-// Not before the start.
-fn end_awaiting(stage: Stage, started: bool, held: usize) -> Ending
-    ensures { result ≡ end_awaiting stage started held }
-{
     if !started {
-        return unended(SocksError::OutOfOrder, stage, held);
+        return Err(SocksError::OutOfOrder);
     }
-    Ending {
-        answer: Answer::Accepted,
-        stage: Stage::Failed(SocksError::UnexpectedEof),
-        held: 0,
-    }
-}
-
-// The stream has ended: a session that waits has failed, and holds nothing.
-pub fn end(stage: Stage, started: bool, held: usize) -> Ending
-    ensures { result ≡ end_at stage started held }
-{
-    match stage {
-        Stage::Awaiting(reply) => end_awaiting(stage, started, held),
-        Stage::Open => unended(SocksError::Settled, stage, held),
-        Stage::Failed(error) => unended(SocksError::Settled, stage, held),
-    }
+    Ok(Stage::Failed(SocksError::UnexpectedEof))
 }

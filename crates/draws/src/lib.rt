@@ -15,7 +15,7 @@ pub struct Drawn {
 pub fn draw(state: u32) -> Drawn
     ensures { result ≡ draw_of state }
 {
-    let next = ((state as u64 * 1664525 + 1013904223) % 4294967296) as u32;
+    let next = state.wrapping_mul(1664525).wrapping_add(1013904223);
     Drawn {
         state: next,
         value: next / 65536,
@@ -57,22 +57,16 @@ pub fn next_piece(state: u32, left: usize, single: bool) -> Piece
     ensures len_le_left { result.len ≤ left }
     ensures len_nonzero { 0 < left → 0 < result.len }
 {
-    if left == 0 {
-        return Piece { len: 0, state };
-    }
-    if single {
-        return Piece { len: 1, state };
+    if left == 0 || single {
+        return Piece {
+            len: left.min(1),
+            state,
+        };
     }
     let drawn = draw(state);
     let len = 1 + drawn.value as usize % 40;
-    if left < len {
-        return Piece {
-            len: left,
-            state: drawn.state,
-        };
-    }
     Piece {
-        len,
+        len: len.min(left),
         state: drawn.state,
     }
 }

@@ -8,9 +8,7 @@ use mathlib.Core.List.{List, ◌∷◌, append-nil}
 use lib.ListN.{length, take, replicate, length-take, length-append, length-replicate, length-map}
 use lib.Dec.{ltb, eqb}
 use borrow.Author.Tests.{eq-eqb, le-ltb, ltb-false}
-use Rattle.protocol.specs.declared.Port.{Port}
-use Rattle.protocol.specs.declared.Answer as code
-use Rattle.protocol.specs.declared.Answer.TheVariants.{Accepted}
+use Rattle.protocol.specs.Answers as code
 use Rattle.protocol.specs.declared.SocksError.TheVariants.{ShortOutput, RouteLength}
 use Rattle.protocol.specs.Numbers.{answer_number}
 use Rattle.protocol.specs.Opening.{Condition, First, Answers, refuse}
@@ -30,12 +28,12 @@ use Rattle.endings.specs.Produces.{route_conditions}
 not_zero : (n : ℕ) → eqb n 0 ≡ false → 0 < n
 not_zero n q = let f : n ≡ 0 → ⊥ = λ e. true≢false (sym (eq-eqb n 0 e) ∙ q) in omega arith
 
-size_has : (n : ℕ) (b c : Bool) → eqb n 0 ≡ b → ltb 8 n ≡ c → (x : code.Answer) → refuse (b || c) RouteLength x ≡ Accepted → (0 < n) × (n ≤ 8)
+size_has : (n : ℕ) (b c : Bool) → eqb n 0 ≡ b → ltb 8 n ≡ c → (x : code.Answer) → refuse (b || c) RouteLength x ≡ code.Accepted → (0 < n) × (n ≤ 8)
 size_has n true c p q x z = absurd (clash (sym z))
 size_has n false true p q x z = absurd (clash (sym z))
 size_has n false false p q x z = (not_zero n p, ltb-false 8 n q)
 
-pub accepted_size : (r : routing.Route) → check_route r ≡ Accepted → (0 < length r.proxies) × (length r.proxies ≤ 8)
+pub accepted_size : (r : routing.Route) → check_route r ≡ code.Accepted → (0 < length r.proxies) × (length r.proxies ≤ 8)
 unfolding check_route
 accepted_size r q = size_has (length r.proxies) _ _ refl refl (check_in_turn (asked r)) q
 
@@ -83,6 +81,6 @@ route_just r =
 pub counted_few : (ps : List Proxy) (count : ℕ) → count ≤ 8 → counted ps count ≡ take count ps
 counted_few ps count m = let z : count - 8 ≡ 0 = omega arith in rw z (append-nil (take count ps))
 
-pub route_long : (text : List ℕ) (ps : List Proxy) (count : ℕ) (host : List ℕ) (port : Port) → length ps ≡ 8 → length (route_of text ps count host port).proxies ≡ count
+pub route_long : (text : List ℕ) (ps : List Proxy) (count : ℕ) (host : List ℕ) (port : code.Port) → length ps ≡ 8 → length (route_of text ps count host port).proxies ≡ count
 route_long text ps count host port l =
     length-map (counted ps count) (proxy_of text) ∙ omega (arith, length-append (take count ps) (replicate (count - 8) no_proxy), length-take count ps, length-replicate (count - 8) no_proxy, l)

@@ -8,7 +8,7 @@ use lib.ListN.{length, take, drop}
 use lib.Seq.{take_at}
 use lib.Dec.{lit<}
 use Rattle.protocol.specs.declared.SocksError.{SocksError}
-use Rattle.protocol.specs.declared.Answer.TheVariants.{Accepted}
+use Rattle.protocol.specs.Answers.{Accepted}
 use Rattle.protocol.specs.Bytes.{BytePieces}
 use Rattle.protocol.specs.Opening.{V5, Condition, None, First, Sixteen, opening5}
 use Rattle.protocol.proofs.Limits.{number_is}
@@ -18,9 +18,7 @@ use Rattle.socks.specs.Demand3.{tunnel_of, joined_of}
 use Rattle.endings_spec.specs.declared.OutcomeStatus.{OutcomeStatus}
 use Rattle.endings_spec.specs.Endings.{ending_of, Leads, Wanted, Nowhere}
 use Rattle.endings_spec.proofs.Order.{wanted_somewhere, wanted_once}
-use Rattle.endings.specs.declared.Produced.{Produced}
-use Rattle.endings.specs.declared.Produced.TheVariants.{Refused, NoStream, Stream}
-use Rattle.endings.specs.Calls.{Call, stream5}
+use Rattle.endings.specs.Calls.{Produced, Refused, NoStream, Stream, Call, stream5}
 use Rattle.endings.specs.Produces.{produced_number, Produces}
 use Rattle.endings.proofs.Promise.{produces5}
 use Rattle.endings.proofs.Led.{led5}

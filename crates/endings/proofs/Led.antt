@@ -3,8 +3,7 @@ use Prim.Native.Nat.{ℕ}
 use native.Mathlib.Omega.{arith}
 use mathlib.Core.Path.{◌≡◌, refl, ap, ◌∙◌}
 use mathlib.Core.Logic.{◌⊎◌, inl, inr}
-use Rattle.protocol.specs.declared.Answer as code
-use Rattle.protocol.specs.declared.Answer.TheVariants.{Accepted, Refused}
+use Rattle.protocol.specs.Answers as code
 use Rattle.protocol.specs.declared.Outcome.{Outcome}
 use Rattle.protocol.specs.declared.Outcome.TheVariants.{Waiting, Open, Failed}
 use Rattle.protocol.specs.declared.SocksError.TheVariants.{UnexpectedEof}
@@ -33,8 +32,8 @@ ends_session : {first next : ℕ} (s : Session) → session-turns.InTurn first n
 ends_session s t = go (session-calls.end s).answer refl
   where
     go : (x : code.Answer) → (session-calls.end s).answer ≡ x → ending_of (session.outcome (session-calls.end s).session) ≡ ending_of (session.outcome s)
-    go Accepted q = ap ending_of (t.end_fails q).outcomes ∙ waited (session.outcome s) (t.end_number.accepts.0 (ap answer_number q)).0
-    go (Refused e) q = ap (λ (c : session-calls.Call). ending_of (session.outcome c.session)) (t.end_untouched e q)
+    go code.Accepted q = ap ending_of (t.end_fails q).outcomes ∙ waited (session.outcome s) (t.end_number.accepts.0 (ap answer_number q)).0
+    go (code.Refused e) q = ap (λ (c : session-calls.Call). ending_of (session.outcome c.session)) (t.end_untouched e q)
 
 end_session : (s : Session) → ending_of (session.outcome (session-calls.end s).session) ≡ ending_of (session.outcome s)
 end_session s = go (session-turned.any_in_turn s)
@@ -44,11 +43,11 @@ end_session s = go (session-turned.any_in_turn s)
     go (inr t) = ends_session s t
 
 end_route : (r : Route) → ending_of (route.outcome (route.end r).session) ≡ ending_of (route.outcome r)
-end_route r = let (n, some, few, t) = route-turned.any_in_turn r in go t (route.end r).answer refl
+end_route r = let (n, Some, few, t) = route-turned.any_in_turn r in go t (route.end r).answer refl
   where
     go : {room : ℕ} → route_turns.InTurn room r → (x : code.Answer) → (route.end r).answer ≡ x → ending_of (route.outcome (route.end r).session) ≡ ending_of (route.outcome r)
-    go t Accepted q = ap ending_of (t.end_fails q).outcomes ∙ waited (route.outcome r) (t.end_number.accepts.0 (ap answer_number q)).0
-    go t (Refused e) q = ap (λ (c : route.Call). ending_of (route.outcome c.session)) (t.end_untouched e q)
+    go t code.Accepted q = ap ending_of (t.end_fails q).outcomes ∙ waited (route.outcome r) (t.end_number.accepts.0 (ap answer_number q)).0
+    go t (code.Refused e) q = ap (λ (c : route.Call). ending_of (route.outcome c.session)) (t.end_untouched e q)
 
 pub led5 : Led5
 led5 a x out p q ds y w h = end_session _ ∙ ap ending_of (demand3_v5 a x out p q ds y).outcome_as ∙ h

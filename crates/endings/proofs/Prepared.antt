@@ -3,8 +3,7 @@ use Prim.Native.Nat.{ℕ}
 use mathlib.Core.Path.{◌≡◌, refl, ap, ◌∙◌}
 use mathlib.Core.Bool.{Bool, true, false}
 use mathlib.Core.List.{List}
-use Rattle.protocol.specs.declared.Answer as code
-use Rattle.protocol.specs.declared.Answer.TheVariants.{Accepted, Refused}
+use Rattle.protocol.specs.Answers as code
 use Rattle.protocol.specs.declared.Version.TheVariants.{V5}
 use Rattle.protocol.specs.Host.{strip}
 use Rattle.protocol.specs.AddressReading.{Destination, destination_of}
@@ -18,8 +17,8 @@ use Rattle.endings.specs.Calls.{produced, stream5, stream4}
 use Rattle.endings.specs.Coded.{kind_by}
 
 answered : (x : code.Answer) (o : Opening) → (prepared_by x o).answer ≡ x
-answered Accepted o = refl
-answered (Refused e) o = refl
+answered code.Accepted o = refl
+answered (code.Refused e) o = refl
 
 kind_if : (b : Bool) (u p : List ℕ) (d : Destination) (port : ℕ) (o : Bool) → kind_by V5 b ≡ kind_of (v5 (credentials_if b u p) d port o)
 kind_if true u p d port o = refl

@@ -4,14 +4,13 @@ use native.Mathlib.Omega.{arith}
 use mathlib.Core.Path.{◌≡◌, refl, ap, sym}
 use mathlib.Core.Logic.{◌↔◌}
 use mathlib.Core.Bool.{Bool, true, false, false≢true}
-use mathlib.Core.Option.{Option, none, some}
+use Rattle.std.specs.Prelude.{Option, None, Some}
 use mathlib.Core.List.{List, [], ◌∷◌, ◌++◌}
 use lib.ListN.{length, drop}
 use lib.Dec.{leb, lit<}
 use borrow.Author.Tests.{leb-true, leb-false}
 use Rattle.protocol.specs.declared.SocksError.TheVariants.{ShortStream}
-use Rattle.protocol.specs.declared.Answer as code
-use Rattle.protocol.specs.declared.Answer.TheVariants.{Accepted, Refused}
+use Rattle.protocol.specs.Answers as code
 use Rattle.protocol.specs.Numbers.{number, answer_number}
 use Rattle.protocol.specs.Opening.{Condition, ◌↣◌, Answers, refuse, check5, check4, opening5, opening4}
 use Rattle.protocol.proofs.Claims.{answers_behind, answers_before}
@@ -32,25 +31,25 @@ module _ (cs : List Condition) (To : List ℕ → Type 0) (buffer : List ℕ) wh
   Short = (bs : List ℕ) × Wanted To bs × (length buffer < length bs)
 
   -- 27 comes behind the checks
-  behind : (b : Bool) → b ≡ true ↔ Short → Answers 0 cs → Answers (answer_number (refuse b ShortStream Accepted)) (cs ++ ((Short ↣ 27) ∷ []))
-  behind b h a = answers_behind _ cs _ a (checked b Short ShortStream 27 Accepted [] refl (lit< tt) h all_passed)
+  behind : (b : Bool) → b ≡ true ↔ Short → Answers 0 cs → Answers (answer_number (refuse b ShortStream code.Accepted)) (cs ++ ((Short ↣ 27) ∷ []))
+  behind b h a = answers_behind _ cs _ a (checked b Short ShortStream 27 code.Accepted [] refl (lit< tt) h all_passed)
 
-  by_answer : (x : code.Answer) (stream : Option (List ℕ)) → Answers (answer_number x) cs → ((bs : List ℕ) → stream ≡ some bs → Wanted To bs) → (stream ≡ none → Nowhere To) → Produces cs To buffer (produced x stream buffer)
-  by_answer (Refused e) stream a v n =
+  by_answer : (x : code.Answer) (stream : Option (List ℕ)) → Answers (answer_number x) cs → ((bs : List ℕ) → stream ≡ Some bs → Wanted To bs) → (stream ≡ None → Nowhere To) → Produces cs To buffer (produced x stream buffer)
+  by_answer (code.Refused e) stream a v n =
       record {
         answers = answers_before (number e) cs _ (number_is e).0 a;
         none_just = (λ q. let z : ◌≡◌ {A = ℕ} 0 1 = cc in absurd (omega arith), λ (p, q). let z = (number_is e).0 in let y = a.accepts.1 p in absurd (omega arith));
         stream_is = λ k q. let z : ◌≡◌ {A = ℕ} 0 1 = cc in absurd (omega arith);
         unwritten = λ f. refl;
       }
-  by_answer Accepted none a v n =
+  by_answer code.Accepted None a v n =
       record {
         answers = behind false (λ q. absurd (false≢true q), λ (bs, w, l). absurd (wanted_somewhere To bs w (n refl))) a;
         none_just = (λ q. (a.accepts.0 refl, n refl), λ q. refl);
         stream_is = λ k q. let z : ◌≡◌ {A = ℕ} 0 1 = cc in absurd (omega arith);
         unwritten = λ f. refl;
       }
-  by_answer Accepted (some bs) a v n = go (leb (length bs) (length buffer)) refl
+  by_answer code.Accepted (Some bs) a v n = go (leb (length bs) (length buffer)) refl
     where
       w : Wanted To bs
       w = v bs refl

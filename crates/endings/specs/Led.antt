@@ -1,6 +1,6 @@
 -- F-12 at the calls: a stream that leads somewhere, delivered in any pieces to a session or a route and followed by an end, ends there.
 use Rattle.std.specs.Prelude.{◌≡◌, List, take, ℕ}
-use Rattle.protocol.specs.declared.Answer.TheVariants.{Accepted}
+use Rattle.protocol.specs.Answers.{Accepted}
 use Rattle.protocol.specs.Bytes.{BytePieces}
 use Rattle.protocol.specs.Opening.{V5, V4, Opening, opening5, opening4, Sixteen}
 use Rattle.client_session.specs.declared.Prepared.{Prepared}

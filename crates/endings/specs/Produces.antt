@@ -7,9 +7,7 @@ use Rattle.route_spec.specs.Route.{asked, openings, conditions_in_turn}
 use Rattle.endings_spec.specs.declared.OutcomeStatus.{OutcomeStatus}
 use Rattle.endings_spec.specs.Endings.{Leads, Wanted, Nowhere}
 use Rattle.endings_spec.specs.RouteEndings.{LeadsAt}
-use Rattle.endings.specs.declared.Produced.{Produced}
-use Rattle.endings.specs.declared.Produced.TheVariants.{Refused, NoStream, Stream}
-use Rattle.endings.specs.Calls.{Call, stream5, stream4, stream_route}
+use Rattle.endings.specs.Calls.{Produced, Refused, NoStream, Stream, Call, stream5, stream4, stream_route}
 
 -- the number of an answer: 0 for a stream, and for none, which is an answer of its own
 abbrev pub produced_number : Produced → ℕ

@@ -6,14 +6,10 @@ mod place;
 pub mod routes;
 pub mod v4;
 pub mod v5;
+mod word;
 mod words;
 
 use protocol::SocksError;
 
 // What is answered: a refusal, that no stream leads there, or the length of the stream that stands at the buffer's start.
-#[derive(Clone, Copy)]
-pub enum Produced {
-    Refused(SocksError),
-    NoStream,
-    Stream(usize),
-}
+pub type Produced = Result<Option<usize>, SocksError>;

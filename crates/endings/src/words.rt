@@ -1,161 +1,89 @@
-// The stream of an opening by its kind, at most twelve bytes.
-ghost use Rattle.std.specs.Prelude.{◌≡◌, true, false, ◌∷◌, [], replicate};
+// The stream of an opening by its kind.
+ghost use Rattle.std.specs.Prelude.{◌≡◌, option_map};
 ghost use Rattle.endings_spec.specs.declared.Kind.TheVariants as Kind;
-ghost use Rattle.endings_spec.specs.Streams.{is_of, stream_of};
-ghost use Rattle.endings.specs.Coded.{Spells, kind_by};
+ghost use Rattle.endings_spec.specs.Streams.{v4_reply, open_stream, stream_of};
+ghost use Rattle.endings.specs.Coded.{bytes_of, connect_stream, kind_by};
 
+use crate::word::Word;
 use endings_spec::{Kind, OutcomeStatus};
 use protocol::Version;
 
-// The first `len` bytes, if there is a stream.
-#[derive(Clone, Copy)]
-pub struct Word {
-    pub found: bool,
-    pub len: usize,
-    pub bytes: [u8; 12],
+fn v4_reply(cd: u8) -> Word
+    ensures { bytes_of result ≡ v4_reply cd }
+{
+    Word::new(&[0x00, cd, 0x00, 0x00, 0x00, 0x00, 0x00, 0x00])
 }
 
-pub fn no_word() -> Word
-    ensures { result ≡ record { found = false; len = 0; bytes = replicate 12 0 } }
+// Over SOCKS5 up to a connect reply with a name of one byte.
+fn connect_stream(authenticates: bool, rep: u8) -> Word
+    ensures { bytes_of result ≡ connect_stream authenticates rep }
 {
-    Word {
-        found: false,
-        len: 0,
-        bytes: [0u8; 12],
+    if authenticates {
+        return Word::new(&[
+            0x05, 0x02, 0x01, 0x00, 0x05, rep, 0x00, 0x03, 0x01, 0x00, 0x00, 0x00,
+        ]);
     }
+    Word::new(&[0x05, 0x00, 0x05, rep, 0x00, 0x03, 0x01, 0x00, 0x00, 0x00])
 }
 
-fn empty() -> Word
-    ensures { result ≡ record { found = true; len = 0; bytes = replicate 12 0 } }
+// The stream by which an opening of this kind opens.
+pub fn open_stream(kind: Kind) -> Word
+    ensures { bytes_of result ≡ open_stream kind }
 {
-    Word {
-        found: true,
-        len: 0,
-        bytes: [0u8; 12],
-    }
-}
-
-// Two bytes, or eight of which the others are 0.
-fn begun(a: u8, b: u8, len: usize) -> Word
-    ensures { result ≡ record { found = true; len = len; bytes = a ∷ b ∷ replicate 10 0 } }
-{
-    Word {
-        found: true,
-        len: len,
-        bytes: [a, b, 0, 0, 0, 0, 0, 0, 0, 0, 0, 0],
+    match kind {
+        Kind::WithoutCredentials => connect_stream(false, 0x00),
+        Kind::WithCredentials => connect_stream(true, 0x00),
+        Kind::OverV4 => v4_reply(0x5A),
     }
 }
 
-// A method without credentials, and a connect reply with a name of one byte.
-fn connect_reply(rep: u8) -> Word
-    ensures { result ≡ record { found = true; len = 10; bytes = 5 ∷ 0 ∷ 5 ∷ rep ∷ 0 ∷ 3 ∷ 1 ∷ 0 ∷ 0 ∷ 0 ∷ 0 ∷ 0 ∷ [] } }
+#[tactic(auto, unfolding(endings_spec::specs::Streams::stream_of))]
+fn without_credentials(wanted: OutcomeStatus) -> Option<Word>
+    ensures { option_map bytes_of result ≡ stream_of Kind.WithoutCredentials wanted }
 {
-    Word {
-        found: true,
-        len: 10,
-        bytes: [
-            0x05, 0x00, 0x05, rep, 0x00, 0x03, 0x01, 0x00, 0x00, 0x00, 0, 0,
-        ],
+    match (wanted.number, wanted.status) {
+        (9, 0) => Some(Word::new(&[])),
+        (10, 0) => Some(Word::new(&[0x00, 0x00])),
+        (12, 0) => Some(Word::new(&[0x05, 0xFF])),
+        (13, 0) => Some(Word::new(&[0x05, 0x02])),
+        (15, 1..=8) => Some(connect_stream(false, wanted.status)),
+        (0, 0) => Some(open_stream(Kind::WithoutCredentials)),
+        _ => None,
     }
 }
 
-// The method with credentials, what answers them, and so many bytes of a connect reply with a name of one byte.
-fn credential_reply(status: u8, rep: u8, len: usize) -> Word
-    ensures { result ≡ record { found = true; len = len; bytes = 5 ∷ 2 ∷ 1 ∷ status ∷ 5 ∷ rep ∷ 0 ∷ 3 ∷ 1 ∷ 0 ∷ 0 ∷ 0 ∷ [] } }
+#[tactic(auto, unfolding(endings_spec::specs::Streams::stream_of))]
+fn with_credentials(wanted: OutcomeStatus) -> Option<Word>
+    ensures { option_map bytes_of result ≡ stream_of Kind.WithCredentials wanted }
 {
-    Word {
-        found: true,
-        len: len,
-        bytes: [
-            0x05, 0x02, 0x01, status, 0x05, rep, 0x00, 0x03, 0x01, 0x00, 0x00, 0x00,
-        ],
+    match (wanted.number, wanted.status) {
+        (9, 0) => Some(Word::new(&[])),
+        (10, 0) => Some(Word::new(&[0x00, 0x00])),
+        (12, 0) => Some(Word::new(&[0x05, 0xFF])),
+        (13, 0) => Some(Word::new(&[0x05, 0x00])),
+        (14, 0) => Some(Word::new(&[0x05, 0x02, 0x01, 0x01])),
+        (15, 1..=8) => Some(connect_stream(true, wanted.status)),
+        (0, 0) => Some(open_stream(Kind::WithCredentials)),
+        _ => None,
     }
 }
 
-// What is wanted is this number, with a status from lo to hi.
-fn is_of(wanted: OutcomeStatus, number: u8, lo: u8, hi: u8) -> bool
-    ensures { result ≡ is_of wanted number lo hi }
+#[tactic(auto, unfolding(endings_spec::specs::Streams::stream_of))]
+fn over_v4(wanted: OutcomeStatus) -> Option<Word>
+    ensures { option_map bytes_of result ≡ stream_of Kind.OverV4 wanted }
 {
-    if wanted.number == number {
-        if lo <= wanted.status {
-            return wanted.status <= hi;
-        }
+    match (wanted.number, wanted.status) {
+        (9, 0) => Some(Word::new(&[])),
+        (10, 0) => Some(v4_reply(0x00)),
+        (15, 91..=93) => Some(v4_reply(wanted.status)),
+        (0, 0) => Some(open_stream(Kind::OverV4)),
+        _ => None,
     }
-    false
-}
-
-fn without_credentials(wanted: OutcomeStatus) -> Word
-    ensures { Spells result (stream_of Kind.WithoutCredentials wanted) }
-{
-    if is_of(wanted, 9, 0, 0) {
-        return empty();
-    }
-    if is_of(wanted, 10, 0, 0) {
-        return begun(0x00, 0x00, 2);
-    }
-    if is_of(wanted, 12, 0, 0) {
-        return begun(0x05, 0xFF, 2);
-    }
-    if is_of(wanted, 13, 0, 0) {
-        return begun(0x05, 0x02, 2);
-    }
-    if is_of(wanted, 15, 1, 8) {
-        return connect_reply(wanted.status);
-    }
-    if is_of(wanted, 0, 0, 0) {
-        return connect_reply(0x00);
-    }
-    no_word()
-}
-
-fn with_credentials(wanted: OutcomeStatus) -> Word
-    ensures { Spells result (stream_of Kind.WithCredentials wanted) }
-{
-    if is_of(wanted, 9, 0, 0) {
-        return empty();
-    }
-    if is_of(wanted, 10, 0, 0) {
-        return begun(0x00, 0x00, 2);
-    }
-    if is_of(wanted, 12, 0, 0) {
-        return begun(0x05, 0xFF, 2);
-    }
-    if is_of(wanted, 13, 0, 0) {
-        return begun(0x05, 0x00, 2);
-    }
-    if is_of(wanted, 14, 0, 0) {
-        return credential_reply(0x01, 0x00, 4);
-    }
-    if is_of(wanted, 15, 1, 8) {
-        return credential_reply(0x00, wanted.status, 12);
-    }
-    if is_of(wanted, 0, 0, 0) {
-        return credential_reply(0x00, 0x00, 12);
-    }
-    no_word()
-}
-
-fn over_v4(wanted: OutcomeStatus) -> Word
-    ensures { Spells result (stream_of Kind.OverV4 wanted) }
-{
-    if is_of(wanted, 9, 0, 0) {
-        return empty();
-    }
-    if is_of(wanted, 10, 0, 0) {
-        return begun(0x00, 0x00, 8);
-    }
-    if is_of(wanted, 15, 91, 93) {
-        return begun(0x00, wanted.status, 8);
-    }
-    if is_of(wanted, 0, 0, 0) {
-        return begun(0x00, 0x5A, 8);
-    }
-    no_word()
 }
 
 // The stream for what is wanted of an opening of this kind.
-pub fn stream_of(kind: Kind, wanted: OutcomeStatus) -> Word
-    ensures { Spells result (stream_of kind wanted) }
+pub fn stream_of(kind: Kind, wanted: OutcomeStatus) -> Option<Word>
+    ensures { option_map bytes_of result ≡ stream_of kind wanted }
 {
     match kind {
         Kind::WithoutCredentials => without_credentials(wanted),
@@ -167,14 +95,9 @@ pub fn stream_of(kind: Kind, wanted: OutcomeStatus) -> Word
 pub fn kind_by(version: Version, authenticates: bool) -> Kind
     ensures { result ≡ kind_by version authenticates }
 {
-    match version {
-        Version::V5 => {
-            if authenticates {
-                Kind::WithCredentials
-            } else {
-                Kind::WithoutCredentials
-            }
-        }
-        Version::V4 => Kind::OverV4,
+    match (version, authenticates) {
+        (Version::V5, true) => Kind::WithCredentials,
+        (Version::V5, false) => Kind::WithoutCredentials,
+        (Version::V4, _) => Kind::OverV4,
     }
 }

@@ -2,7 +2,7 @@
 use Prim.Native.Nat.{ℕ, suc, ◌+◌, ◌≤◌, ◌<◌, zero-le}
 use native.Mathlib.Omega.{arith}
 use mathlib.Core.Path.{◌≡◌, refl, sym}
-use mathlib.Core.Option.{Option, none, some}
+use Rattle.std.specs.Prelude.{Option, None, Some}
 use mathlib.Core.List.{List, [], ◌∷◌, ◌++◌}
 use lib.ListN.{length, take, drop, length-append}
 use lib.Seq.{drop-cons, length-take-le}
@@ -80,8 +80,8 @@ pub record Least (P : List ℕ → Type 0) (bs : List ℕ) : Type 0 where
   pub least : (cs : List ℕ) → P cs → AtMost bs cs
 
 abbrev pub Best : (List ℕ → Type 0) → Option (List ℕ) → Type 0
-Best P none = (cs : List ℕ) → P cs → ⊥
-Best P (some bs) = Least P bs
+Best P None = (cs : List ℕ) → P cs → ⊥
+Best P (Some bs) = Least P bs
 
 pub least_wanted : {P : List ℕ → Type 0} {bs : List ℕ} → Least P bs → Wanted P bs
 least_wanted l =

@@ -3,7 +3,7 @@ use Prim.Native.Nat.{ℕ, zero, suc, ◌+◌, ◌*◌, ◌≤◌}
 use native.Mathlib.Nat.{le_refl}
 use native.Mathlib.Omega.{arith}
 use mathlib.Core.Path.{◌≡◌}
-use mathlib.Core.Option.{Option, none, some}
+use Rattle.std.specs.Prelude.{Option, None, Some}
 use mathlib.Core.List.{List, [], ◌∷◌}
 use lib.ListN.{length, drop, length-append}
 use Rattle.protocol.specs.declared.Outcome.{Outcome}
@@ -21,35 +21,35 @@ use Rattle.endings_spec.proofs.Table.{ends_at, stream_step}
 use Rattle.endings_spec.proofs.Streams.{route_stream_wanted}
 
 abbrev Sized : ℕ → Option (List ℕ) → Type 0
-Sized k none = Unit {0}
-Sized k (some u) = length u ≤ k
+Sized k None = Unit {0}
+Sized k (Some u) = length u ≤ k
 
 sized_more : (j k : ℕ) (r : Option (List ℕ)) → j ≤ k → Sized j r → Sized k r
-sized_more j k none h s = tt
-sized_more j k (some u) h s = omega arith
+sized_more j k None h s = tt
+sized_more j k (Some u) h s = omega arith
 
 sized_or : (k : ℕ) (r s : Option (List ℕ)) → Sized k r → Sized k s → Sized k (or_else r s)
-sized_or k none s p q = q
-sized_or k (some u) s p q = p
+sized_or k None s p q = q
+sized_or k (Some u) s p q = p
 
 sized_then : (j k : ℕ) (r s : Option (List ℕ)) → Sized j r → Sized k s → Sized (j + k) (then r s)
-sized_then j k none s p q = tt
-sized_then j k (some u) none p q = tt
-sized_then j k (some u) (some v) p q = omega (arith, length-append u v)
+sized_then j k None s p q = tt
+sized_then j k (Some u) None p q = tt
+sized_then j k (Some u) (Some v) p q = omega (arith, length-append u v)
 
 sized_good : (e : Reply) → Sized (size_of e) (good_for e)
 sized_good e = go (good_for e) (good_word e)
   where
     go : (r : Option (List ℕ)) → GoodWord e r → Sized (size_of e) r
-    go none g = tt
-    go (some u) (g, l) = g.small
+    go None g = tt
+    go (Some u) (g, l) = g.small
 
 sized_end : (n : ℕ) (w : OutcomeStatus) (e : Reply) → Sized (size_of e) (ends_at n w e)
 sized_end zero w e = go (ends_for w e) (end_word w e)
   where
     go : (r : Option (List ℕ)) → EndWord w e r → Sized (size_of e) r
-    go none b = tt
-    go (some u) (y, h, l) = l
+    go None b = tt
+    go (Some u) (y, h, l) = l
 sized_end (suc n) w e = tt
 
 -- replies in turn, and k bytes behind them
@@ -84,7 +84,7 @@ sized_at [] (suc n) w = tt
 sized_at (o ∷ os) zero w = tt
 sized_at (o ∷ os) (suc n) w = step o os n w (sized_at os n w)
 
-pub stream_size : (o : Opening) (w : OutcomeStatus) (bs : List ℕ) → stream_for o w ≡ some bs → length bs ≤ 12
+pub stream_size : (o : Opening) (w : OutcomeStatus) (bs : List ℕ) → stream_for o w ≡ Some bs → length bs ≤ 12
 unfolding stream_at
 stream_size o w bs q = rw q at (sized_at (o ∷ []) 1 w)
 
@@ -100,5 +100,5 @@ begun_within (o ∷ os) bs = let m = machine o bs in go m.outcome (begun os (dro
     go Open b h = omega arith
     go (Failed e) b h = omega arith
 
-pub route_stream_size : (os : List Opening) (proxy : ℕ) (w : OutcomeStatus) (bs : List ℕ) → stream_at os proxy w ≡ some bs → (proxy ≤ length os) × (length bs ≤ 12 * proxy)
+pub route_stream_size : (os : List Opening) (proxy : ℕ) (w : OutcomeStatus) (bs : List ℕ) → stream_at os proxy w ≡ Some bs → (proxy ≤ length os) × (length bs ≤ 12 * proxy)
 route_stream_size os proxy w bs q = (rw (route_stream_wanted os proxy w bs q).leads.0 at (begun_within os bs), rw q at (sized_at os proxy w))

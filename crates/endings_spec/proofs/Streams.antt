@@ -3,16 +3,14 @@ use Prim.Native.Nat.{ℕ, zero, suc, ◌+◌}
 use native.Mathlib.Omega.{arith}
 use mathlib.Core.Path.{◌≡◌, refl}
 use mathlib.Core.Logic.{◌↔◌}
-use mathlib.Core.Option.{Option, none, some}
+use Rattle.std.specs.Prelude.{Option, None, Some}
 use mathlib.Core.List.{List, [], ◌∷◌}
 use lib.ListN.{drop}
 use lib.Seq.{drop-drop}
 use Rattle.protocol.specs.declared.Outcome.{Outcome}
 use Rattle.protocol.specs.declared.Outcome.TheVariants.{Waiting, Open, Failed}
 use Rattle.protocol.specs.declared.Reply.{Reply}
-use Rattle.protocol.specs.declared.Verdict.TheVariants.{Good, Bad}
-use Rattle.protocol.specs.declared.Decision.{Decision}
-use Rattle.protocol.specs.declared.Decision.TheVariants.{Undecided, Decided}
+use Rattle.protocol.specs.Answers.{Good, Bad, Decision, Undecided, Decided}
 use Rattle.protocol.specs.Bound.{Endpoint, unbound}
 use Rattle.protocol.specs.Opening.{Opening, replies, at_opening, later}
 use Rattle.protocol.specs.Replies.{decide}
@@ -113,8 +111,8 @@ at_blank os (suc n) w h = λ e u q. let z : ◌≡◌ {A = ℕ} 0 1 = cc in absu
 -- ---- the streams
 
 best_iff : {P Q : List ℕ → Type 0} → ((cs : List ℕ) → P cs ↔ Q cs) → (r : Option (List ℕ)) → Best Q r → Best P r
-best_iff e none b = λ cs p. b cs ((e cs).0 p)
-best_iff e (some u) b = record { bytes = b.bytes; leads = (e u).1 b.leads; least = λ cs p. b.least cs ((e cs).0 p) }
+best_iff e None b = λ cs p. b cs ((e cs).0 p)
+best_iff e (Some u) b = record { bytes = b.bytes; leads = (e u).1 b.leads; least = λ cs p. b.least cs ((e cs).0 p) }
 
 step : (o : Opening) (os : List Opening) (n : ℕ) (w : OutcomeStatus) → Best (LeadsAt os n w) (stream_at os n w) → Best (LeadsAt (o ∷ os) (suc n) w) (stream_at (o ∷ os) (suc n) w)
 step o os n w b =
@@ -124,7 +122,7 @@ step o os n w b =
 
 route_best : (os : List Opening) (n : ℕ) (w : OutcomeStatus) → Best (LeadsAt os n w) (stream_at os n w)
 unfolding stream_at begun
-route_best [] zero w = best_iff (λ cs. (λ (p, q). q, λ q. (refl, q))) (if (is_of w 0 0 0) [] none) (open_best w)
+route_best [] zero w = best_iff (λ cs. (λ (p, q). q, λ q. (refl, q))) (if (is_of w 0 0 0) [] None) (open_best w)
 route_best [] (suc n) w = λ cs (p, q). omega arith
 route_best (o ∷ os) zero w = λ cs (p, q). omega arith
 route_best (o ∷ os) (suc n) w = step o os n w (route_best os n w)
@@ -143,14 +141,14 @@ stream_best : (o : Opening) (w : OutcomeStatus) → Best (Leads o w) (stream_for
 unfolding stream_at
 stream_best o w = best_iff (leads_one o w) (stream_for o w) (route_best (o ∷ []) 1 w)
 
-pub stream_wanted : (o : Opening) (w : OutcomeStatus) (bs : List ℕ) → stream_for o w ≡ some bs → Wanted (Leads o w) bs
+pub stream_wanted : (o : Opening) (w : OutcomeStatus) (bs : List ℕ) → stream_for o w ≡ Some bs → Wanted (Leads o w) bs
 stream_wanted o w bs q = least_wanted (rw q at (stream_best o w))
 
-pub stream_nowhere : (o : Opening) (w : OutcomeStatus) → stream_for o w ≡ none → Nowhere (Leads o w)
+pub stream_nowhere : (o : Opening) (w : OutcomeStatus) → stream_for o w ≡ None → Nowhere (Leads o w)
 stream_nowhere o w q bs y h = (rw q at (stream_best o w)) bs h
 
-pub route_stream_wanted : (os : List Opening) (proxy : ℕ) (w : OutcomeStatus) (bs : List ℕ) → stream_at os proxy w ≡ some bs → Wanted (LeadsAt os proxy w) bs
+pub route_stream_wanted : (os : List Opening) (proxy : ℕ) (w : OutcomeStatus) (bs : List ℕ) → stream_at os proxy w ≡ Some bs → Wanted (LeadsAt os proxy w) bs
 route_stream_wanted os proxy w bs q = least_wanted (rw q at (route_best os proxy w))
 
-pub route_stream_nowhere : (os : List Opening) (proxy : ℕ) (w : OutcomeStatus) → stream_at os proxy w ≡ none → Nowhere (LeadsAt os proxy w)
+pub route_stream_nowhere : (os : List Opening) (proxy : ℕ) (w : OutcomeStatus) → stream_at os proxy w ≡ None → Nowhere (LeadsAt os proxy w)
 route_stream_nowhere os proxy w q bs y h = (rw q at (route_best os proxy w)) bs h

@@ -1,7 +1,7 @@
 -- F-12: the table of streams is what the replies in turn come to.
 use Prim.Native.Nat.{ℕ, zero, suc}
 use mathlib.Core.Path.{◌≡◌, refl, sym, ◌∙◌}
-use mathlib.Core.Option.{Option, none, some}
+use Rattle.std.specs.Prelude.{Option, None, Some}
 use mathlib.Core.List.{List, [], ◌∷◌}
 use lib.Dec.{eqb}
 use borrow.Author.Tests.{eqb-true}
@@ -16,7 +16,7 @@ use Rattle.endings_spec.proofs.Through.{then, through, open_ends}
 -- ---- an opening
 
 abbrev open_for : OutcomeStatus → Option (List ℕ)
-open_for w = if (is_of w 0 0 0) [] none
+open_for w = if (is_of w 0 0 0) [] None
 
 for_through : (o : Opening) (w : OutcomeStatus) → stream_for o w ≡ through (ends_for w) (replies o) (open_for w)
 unfolding stream_of through ends_for bad_for
@@ -49,34 +49,34 @@ for_through (v4 d port) w =
 -- with so many proxies still behind this one up to the one at which to end: at that one it ends, before it nowhere
 abbrev pub ends_at : ℕ → OutcomeStatus → Reply → Option (List ℕ)
 ends_at zero w e = ends_for w e
-ends_at (suc n) w e = none
+ends_at (suc n) w e = None
 
-through_none : (ends : Reply → Option (List ℕ)) → ((e : Reply) → ends e ≡ none) → (es : List Reply) → through ends es none ≡ none
+through_none : (ends : Reply → Option (List ℕ)) → ((e : Reply) → ends e ≡ None) → (es : List Reply) → through ends es None ≡ None
 unfolding through
 through_none ends h [] = refl
 through_none ends h (e ∷ es) = rw (h e, through_none ends h es) (go (good_for e))
   where
-    go : (g : Option (List ℕ)) → then g none ≡ none
-    go none = refl
-    go (some u) = refl
+    go : (g : Option (List ℕ)) → then g None ≡ None
+    go None = refl
+    go (Some u) = refl
 
 last_through : (o : Opening) (os : List Opening) (w : OutcomeStatus) → last_for o os w ≡ through (ends_for w) (replies o) (stream_at os zero w)
 unfolding stream_at
 last_through o [] w = for_through o w
 last_through o (p ∷ ps) w =
     let X = through (ends_for w) (replies o) in
-    test (λ (r : Option (List ℕ)). r ≡ X none) (eqb w.number 0)
+    test (λ (r : Option (List ℕ)). r ≡ X None) (eqb w.number 0)
     (λ q. sym (through_none (ends_for w) (open_ends w (eqb-true w.number 0 q)) (replies o)))
     (λ q. for_through o w ∙ rw q)
 
-joined_through : (o : Opening) (r : Option (List ℕ)) → joined (open_stream (kind_of o)) r ≡ through (λ e. none) (replies o) r
+joined_through : (o : Opening) (r : Option (List ℕ)) → joined (open_stream (kind_of o)) r ≡ through (λ e. None) (replies o) r
 unfolding through
-joined_through (v5 no_auth d port o) none = refl
-joined_through (v5 no_auth d port o) (some u) = refl
-joined_through (v5 (user_pass u p) d port o) none = refl
-joined_through (v5 (user_pass u p) d port o) (some v) = refl
-joined_through (v4 d port) none = refl
-joined_through (v4 d port) (some u) = refl
+joined_through (v5 no_auth d port o) None = refl
+joined_through (v5 no_auth d port o) (Some u) = refl
+joined_through (v5 (user_pass u p) d port o) None = refl
+joined_through (v5 (user_pass u p) d port o) (Some v) = refl
+joined_through (v4 d port) None = refl
+joined_through (v4 d port) (Some u) = refl
 
 pub stream_step : (o : Opening) (os : List Opening) (n : ℕ) (w : OutcomeStatus) → stream_at (o ∷ os) (suc n) w ≡ through (ends_at n w) (replies o) (stream_at os n w)
 unfolding stream_at

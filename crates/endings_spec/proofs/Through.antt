@@ -4,16 +4,14 @@ use native.Mathlib.Omega.{arith}
 use mathlib.Core.Path.{◌≡◌, refl, ap, sym}
 use mathlib.Core.Logic.{◌⊎◌, inl, inr}
 use mathlib.Core.Bool.{false≢true}
-use mathlib.Core.Option.{Option, none, some}
+use Rattle.std.specs.Prelude.{Option, None, Some}
 use mathlib.Core.List.{List, [], ◌∷◌, ◌++◌}
 use lib.ListN.{length, take, drop, length-drop, take-append-drop}
 use lib.Seq.{drop-append_seam, length-take-le}
 use Rattle.protocol.specs.declared.Outcome.TheVariants.{Waiting, Open}
 use Rattle.protocol.specs.declared.Reply.{Reply}
 use Rattle.protocol.specs.declared.Reply.TheVariants.{NegotiationRes, AuthenticationRes, ProxyRes, Response}
-use Rattle.protocol.specs.declared.Verdict.TheVariants.{Good, Bad}
-use Rattle.protocol.specs.declared.Decision.{Decision}
-use Rattle.protocol.specs.declared.Decision.TheVariants.{Undecided, Decided}
+use Rattle.protocol.specs.Answers.{Good, Bad, Decision, Undecided, Decided}
 use Rattle.protocol.specs.Replies.{decide}
 use Rattle.protocol.proofs.Bytes.{bytes_join}
 use Rattle.protocol.proofs.Replies.{stays_decided, decided_within}
@@ -28,13 +26,13 @@ use Rattle.endings_spec.proofs.Words.{test, First, size_of, GoodWord, good_word,
 
 -- the one, or else the other; and both, the one before the other
 abbrev pub or_else : Option (List ℕ) → Option (List ℕ) → Option (List ℕ)
-or_else none later = later
-or_else (some a) later = some a
+or_else None later = later
+or_else (Some a) later = Some a
 
 abbrev pub then : Option (List ℕ) → Option (List ℕ) → Option (List ℕ)
-then none r = none
-then (some a) none = none
-then (some a) (some b) = some (a ++ b)
+then None r = None
+then (Some a) None = None
+then (Some a) (Some b) = Some (a ++ b)
 
 -- good ones up to the first that can end so; if none can, good ones all and what is given behind them
 unfoldable pub through : (Reply → Option (List ℕ)) → List Reply → Option (List ℕ) → Option (List ℕ)
@@ -50,9 +48,9 @@ then_best : (e : Reply) (Q : List ℕ → Type 0) (r : Option (List ℕ)) → Be
 then_best e Q r b = go (good_for e) (good_word e) (first_good e) r b
   where
     go : (g : Option (List ℕ)) → GoodWord e g → ((cs : List ℕ) (n : ℕ) → decide e cs ≡ Decided n Good → First g (take n cs)) → (r : Option (List ℕ)) → Best Q r → Best (Then e Q) (then g r)
-    go none g f r b = λ cs (n, d, q). f cs n d
-    go (some u) g f none b = λ cs (n, d, q). b (drop n cs) q
-    go (some u) (g, l) f (some v) b =
+    go None g f r b = λ cs (n, d, q). f cs n d
+    go (Some u) g f None b = λ cs (n, d, q). b (drop n cs) q
+    go (Some u) (g, l) f (Some v) b =
         record {
           bytes = bytes_join u v g.bytes b.bytes;
           leads = (length u, stays_decided e u v (length u) Good g.decides, rw (drop-append_seam u v) b.leads);
@@ -62,18 +60,18 @@ then_best e Q r b = go (good_for e) (good_word e) (first_good e) r b
 -- ---- two ways to a property, of which the first, where there is one, is the better
 
 or_best : (A B P : List ℕ → Type 0) (r s : Option (List ℕ)) → ((bs : List ℕ) → P bs → A bs ⊎ B bs) → ((bs : List ℕ) → A bs → P bs) → ((bs : List ℕ) → B bs → P bs)
-    → Best A r → Best B s → ((u : List ℕ) → r ≡ some u → (cs : List ℕ) → B cs → AtMost u cs) → Best P (or_else r s)
-or_best A B P none none either a b p q m = λ cs h. go cs (either cs h)
+    → Best A r → Best B s → ((u : List ℕ) → r ≡ Some u → (cs : List ℕ) → B cs → AtMost u cs) → Best P (or_else r s)
+or_best A B P None None either a b p q m = λ cs h. go cs (either cs h)
   where
     go : (cs : List ℕ) → A cs ⊎ B cs → ⊥
     go cs (inl h) = p cs h
     go cs (inr h) = q cs h
-or_best A B P none (some v) either a b p q m = record { bytes = q.bytes; leads = b v q.leads; least = λ cs h. go cs (either cs h) }
+or_best A B P None (Some v) either a b p q m = record { bytes = q.bytes; leads = b v q.leads; least = λ cs h. go cs (either cs h) }
   where
     go : (cs : List ℕ) → A cs ⊎ B cs → AtMost v cs
     go cs (inl h) = absurd (p cs h)
     go cs (inr h) = q.least cs h
-or_best A B P (some u) s either a b p q m = record { bytes = p.bytes; leads = a u p.leads; least = λ cs h. go cs (either cs h) }
+or_best A B P (Some u) s either a b p q m = record { bytes = p.bytes; leads = a u p.leads; least = λ cs h. go cs (either cs h) }
   where
     go : (cs : List ℕ) → A cs ⊎ B cs → AtMost u cs
     go cs (inl h) = p.least cs h
@@ -87,11 +85,11 @@ Ends S Q (e ∷ es) bs = HereOr S (decide e bs) (λ n. Ends S Q es (drop n bs))
 
 -- it ends so at a reply only with no byte at all: what must hold where the empty stream leads there too
 abbrev pub Blank : (Reply → Option (List ℕ)) → Type 0
-Blank ends = (e : Reply) (u : List ℕ) → ends e ≡ some u → u ≡ []
+Blank ends = (e : Reply) (u : List ℕ) → ends e ≡ Some u → u ≡ []
 
 pub record Aim (S : OutcomeStatus → Type 0) (ends : Reply → Option (List ℕ)) : Type 0 where
   pub best : (e : Reply) → Best (λ bs. Here S (decide e bs)) (ends e)
-  pub small : (e : Reply) (u : List ℕ) → ends e ≡ some u → length u ≤ size_of e
+  pub small : (e : Reply) (u : List ℕ) → ends e ≡ Some u → length u ≤ size_of e
   pub blank : S (ending_of Waiting) → Blank ends
 
 module _ (S : OutcomeStatus → Type 0) (ends : Reply → Option (List ℕ)) (aim : Aim S ends) (Q : List ℕ → Type 0) (blank : Q [] → Blank ends) where
@@ -100,12 +98,12 @@ module _ (S : OutcomeStatus → Type 0) (ends : Reply → Option (List ℕ)) (ai
   ends_blank (e ∷ es) q = aim.blank (rw (undecided_nil e) at q)
 
   -- to end at this reply takes no more bytes than a good one has, and behind a good one something follows
-  better : (e : Reply) (es : List Reply) (u : List ℕ) → ends e ≡ some u → (cs : List ℕ) → Then e (Ends S Q es) cs → AtMost u cs
+  better : (e : Reply) (es : List Reply) (u : List ℕ) → ends e ≡ Some u → (cs : List ℕ) → Then e (Ends S Q es) cs → AtMost u cs
   better e es u q cs (n, d, p) = go (drop n cs) refl p
     where
       size : (g : Option (List ℕ)) → GoodWord e g → First g (take n cs) → size_of e ≤ n
-      size none g f = absurd f
-      size (some v) (g, l) f = omega (arith, f.short, length-take-le n cs (decided_within e cs n Good d))
+      size None g f = absurd f
+      size (Some v) (g, l) f = omega (arith, f.short, length-take-le n cs (decided_within e cs n Good d))
 
       go : (l : List ℕ) → drop n cs ≡ l → Ends S Q es l → AtMost u cs
       go [] f p = rw (ends_blank es p e u q) (at_most_nil cs)
@@ -137,16 +135,16 @@ ending_aim w =
     record {
       best = λ e. go e (ends_for w e) (end_word w e) (first_end w e);
       small = λ e u q. (rw q at (end_word w e)).2;
-      blank = λ h e u q. let n : some [] ≡ some u = rw (← h) at q in cc;
+      blank = λ h e u q. let n : Some [] ≡ Some u = rw (← h) at q in cc;
     }
   where
     go : (e : Reply) (r : Option (List ℕ)) → EndWord w e r → ((cs : List ℕ) → Here (λ v. v ≡ w) (decide e cs) → First r cs) → Best (λ bs. Here (λ v. v ≡ w) (decide e bs)) r
-    go e none b f = f
-    go e (some u) (y, h, l) f = record { bytes = y; leads = h; least = f }
+    go e None b f = f
+    go e (Some u) (y, h, l) f = record { bytes = y; leads = h; least = f }
 
 -- ---- to end nowhere, and go on
 
-pub onward_aim : Aim (λ v. ⊥) (λ e. none)
+pub onward_aim : Aim (λ v. ⊥) (λ e. None)
 onward_aim =
     record {
       best = λ e cs. go (decide e cs);
@@ -161,14 +159,14 @@ onward_aim =
 
 -- ---- to be open behind them all
 
-pub open_best : (w : OutcomeStatus) → Best (λ cs. ending_of Open ≡ w) (if (is_of w 0 0 0) [] none)
+pub open_best : (w : OutcomeStatus) → Best (λ cs. ending_of Open ≡ w) (if (is_of w 0 0 0) [] None)
 open_best w =
     test (Best (λ cs. ending_of Open ≡ w)) (is_of w 0 0 0)
     (λ t. record { bytes = λ i. zero-le; leads = is_plain w 0 t; least = λ cs q. at_most_nil cs })
     (λ t cs q. false≢true (rw (← q) at (sym t)))
 
 -- what is open has ended at no reply
-pub open_ends : (w : OutcomeStatus) → w.number ≡ 0 → (e : Reply) → ends_for w e ≡ none
+pub open_ends : (w : OutcomeStatus) → w.number ≡ 0 → (e : Reply) → ends_for w e ≡ None
 unfolding ends_for bad_for
 open_ends w q (NegotiationRes m) = rw q
 open_ends w q AuthenticationRes = rw q

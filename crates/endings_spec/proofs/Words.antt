@@ -4,7 +4,7 @@ use native.Mathlib.Nat.{le_refl}
 use native.Mathlib.Omega.{arith}
 use mathlib.Core.Path.{◌≡◌, refl, sym, ◌∙◌}
 use mathlib.Core.Bool.{Bool, true, false, cond, ◌&&◌, ◌||◌, not, false≢true}
-use mathlib.Core.Option.{Option, none, some}
+use Rattle.std.specs.Prelude.{Option, None, Some}
 use mathlib.Core.List.{List, [], ◌∷◌, append-nil}
 use lib.ListN.{length, take, drop, take-append-drop}
 use lib.Dec.{leb, eqb, lit≤}
@@ -16,10 +16,7 @@ use Rattle.protocol.specs.declared.SocksError.TheVariants.{Parsing, Unsupported,
 use Rattle.protocol.specs.declared.Outcome.TheVariants as Outcome
 use Rattle.protocol.specs.declared.Reply.{Reply}
 use Rattle.protocol.specs.declared.Reply.TheVariants.{NegotiationRes, AuthenticationRes, ProxyRes, Response}
-use Rattle.protocol.specs.declared.Verdict.{Verdict}
-use Rattle.protocol.specs.declared.Verdict.TheVariants.{Good, Bad}
-use Rattle.protocol.specs.declared.Decision.{Decision}
-use Rattle.protocol.specs.declared.Decision.TheVariants.{Undecided, Decided}
+use Rattle.protocol.specs.Answers.{Verdict, Good, Bad, Decision, Undecided, Decided}
 use Rattle.protocol.specs.Bytes.{Bytes, byte}
 use Rattle.protocol.specs.Requests.{method_byte}
 use Rattle.protocol.specs.Utf8.{class_of, among, first, next, scan, is_boundary, is_utf8}
@@ -42,8 +39,8 @@ word_for e Good = good_for e
 word_for e (Bad x) = ends_for (ending_of (Outcome.Failed x)) e
 
 abbrev pub First : Option (List ℕ) → List ℕ → Type 0
-First none cs = ⊥
-First (some u) cs = AtMost u cs
+First None cs = ⊥
+First (Some u) cs = AtMost u cs
 
 abbrev FirstOn : Reply → List ℕ → Decision → Type 0
 FirstOn e bs Undecided = Unit {0}
@@ -194,8 +191,8 @@ pub record Decides (e : Reply) (v : Verdict) (u : List ℕ) : Type 0 where
   pub small : length u ≤ size_of e
 
 abbrev pub GoodWord : Reply → Option (List ℕ) → Type 0
-GoodWord e none = Unit {0}
-GoodWord e (some u) = Decides e Good u × (length u ≡ size_of e)
+GoodWord e None = Unit {0}
+GoodWord e (Some u) = Decides e Good u × (length u ≡ size_of e)
 
 pub good_word : (e : Reply) → GoodWord e (good_for e)
 unfolding decide negotiation_verdict authentication_verdict response_verdict proxy_at head_allowed type_allowed proxy_size name_field proxy_verdict class_of among first next scan is_boundary is_utf8
@@ -207,8 +204,8 @@ good_word ProxyRes = (record { bytes = low_bytes (connect_reply 0) (omega arith)
 good_word Response = (record { bytes = low_bytes (v4_reply 90) (omega arith); decides = refl; small = le_refl 8 }, refl)
 
 abbrev BadWord : OutcomeStatus → Reply → Option (List ℕ) → Type 0
-BadWord w e none = Unit {0}
-BadWord w e (some u) = (x : SocksError) × Decides e (Bad x) u × (ending_of (Outcome.Failed x) ≡ w)
+BadWord w e None = Unit {0}
+BadWord w e (Some u) = (x : SocksError) × Decides e (Bad x) u × (ending_of (Outcome.Failed x) ≡ w)
 
 -- what a test of what is wanted says
 record Is (w : OutcomeStatus) (n lo hi : ℕ) : Type 0 where
@@ -230,7 +227,7 @@ is_plain w n t = let i = is_of_lem w n 0 0 t in same_ending (record { number = n
 
 -- a failure that has no status
 plain : (w : OutcomeStatus) (e : Reply) (n : ℕ) (x : SocksError) (u : List ℕ) → Decides e (Bad x) u → ending_of (Outcome.Failed x) ≡ record { number = n; status = 0 }
-    → is_of w n 0 0 ≡ true → BadWord w e (some u)
+    → is_of w n 0 0 ≡ true → BadWord w e (Some u)
 plain w e n x u d q t = (x, d, q ∙ is_plain w n t)
 
 decided : (e : Reply) (x : SocksError) (u : List ℕ) → Low u → decide e u ≡ Decided (length u) (Bad x) → length u ≤ size_of e → Decides e (Bad x) u
@@ -251,7 +248,7 @@ unfolding decide response_verdict
 response_fails s lo hi = rw (le-leb 90 s (omega arith), le-leb s 93 hi, ne_eqb s 90 (λ e. omega arith))
 
 -- a failure whose status the reply holds
-command : (w : OutcomeStatus) (e : Reply) (u : List ℕ) → Decides e (Bad (Command w.status)) u → w.number ≡ 15 → BadWord w e (some u)
+command : (w : OutcomeStatus) (e : Reply) (u : List ℕ) → Decides e (Bad (Command w.status)) u → w.number ≡ 15 → BadWord w e (Some u)
 command w e u d q = (Command w.status, d, same_ending (record { number = 15; status = w.status }) w (sym q) refl)
 
 bad_word : (w : OutcomeStatus) (e : Reply) → BadWord w e (bad_for w e)
@@ -310,20 +307,20 @@ abbrev pub Here : (OutcomeStatus → Type 0) → Decision → Type 0
 Here S d = HereOr S d (λ n. ⊥)
 
 abbrev pub EndWord : OutcomeStatus → Reply → Option (List ℕ) → Type 0
-EndWord w e none = Unit {0}
-EndWord w e (some u) = Bytes u × Here (λ v. v ≡ w) (decide e u) × (length u ≤ size_of e)
+EndWord w e None = Unit {0}
+EndWord w e (Some u) = Bytes u × Here (λ v. v ≡ w) (decide e u) × (length u ≤ size_of e)
 
 pub end_word : (w : OutcomeStatus) (e : Reply) → EndWord w e (ends_for w e)
 unfolding ends_for
 end_word w e = test (EndWord w e) (is_of w 9 0 0) (λ t. (λ i. zero-le, rw (undecided_nil e) (is_plain w 9 t), zero-le)) (λ t. go (bad_for w e) (bad_word w e))
   where
     go : (r : Option (List ℕ)) → BadWord w e r → EndWord w e r
-    go none b = tt
-    go (some u) (x, d, q) = (d.bytes, rw d.decides q, d.small)
+    go None b = tt
+    go (Some u) (x, d, q) = (d.bytes, rw d.decides q, d.small)
 
 first_more : (r : Option (List ℕ)) (n : ℕ) (cs : List ℕ) → First r (take n cs) → First r cs
-first_more none n cs f = f
-first_more (some u) n cs f = rw (append-nil u, take-append-drop n cs) at (at_most_append f (at_most_nil (drop n cs)))
+first_more None n cs f = f
+first_more (Some u) n cs f = rw (append-nil u, take-append-drop n cs) at (at_most_append f (at_most_nil (drop n cs)))
 
 pub first_good : (e : Reply) (cs : List ℕ) (n : ℕ) → decide e cs ≡ Decided n Good → First (good_for e) (take n cs)
 first_good e cs n q = rw q at (first_on e cs)

@@ -4,7 +4,7 @@
 ghost use Rattle.std.specs.Prelude.{◌≤◌, length};
 ghost use Rattle.io.specs.Counts.{IsPrefixLen};
 
-use places::{byte_at, number_at, part, store};
+use places::{number_at, part};
 use std::io::{Read, Stdin};
 
 pub mod places;
@@ -59,11 +59,11 @@ pub fn read_piece(mut stdin: Stdin, piece: &mut [u8]) -> usize
 
 // Moves the bytes from a place up to an end to the buffer's start, and says how many they are.
 fn keep(buffer: &mut [u8], from: usize, end: usize) -> usize {
-    let mut kept: usize = 0;
-    for at in from..end {
-        kept = store(buffer, kept, byte_at(buffer, at));
+    if from > end || end > buffer.len() {
+        return 0;
     }
-    kept
+    buffer.copy_within(from..end, 0);
+    end - from
 }
 
 // Reads behind what is held, until the buffer is full or the input ends, and says how many bytes there are then.
@@ -76,12 +76,10 @@ fn fill(mut stdin: Stdin, buffer: &mut [u8], held: usize) -> usize {
 
 // At least n unread bytes, or all that the input has.
 fn want(stdin: Stdin, input: Input, buffer: &mut [u8], n: usize) -> Input {
-    let at = input.at;
-    let end = input.end;
-    if input.ended || (at <= end && n <= end - at) {
+    if input.ended || (input.at <= input.end && n <= input.end - input.at) {
         return input;
     }
-    let held = keep(buffer, at, end);
+    let held = keep(buffer, input.at, input.end);
     let stop = fill(stdin, buffer, held);
     Input {
         at: 0,
@@ -94,5 +92,5 @@ fn want(stdin: Stdin, input: Input, buffer: &mut [u8], n: usize) -> Input {
 pub fn want_text(stdin: Stdin, input: Input, buffer: &mut [u8]) -> Input {
     let seen = want(stdin, input, buffer, 2);
     let size = number_at(part(buffer, seen.at, seen.end), 0);
-    want(stdin, seen, buffer, 2 + size as usize)
+    want(stdin, seen, buffer, 2 + usize::from(size))
 }

@@ -1,7 +1,6 @@
 -- F-9 in numbers: what the call that reads a line tells of it, and the arrays that it leaves.
 use Rattle.std.specs.Prelude.{ℕ, ◌≡◌, List}
-use Rattle.protocol.specs.declared.Answer.{Answer}
-use Rattle.protocol.specs.declared.Answer.TheVariants.{Accepted, Refused}
+use Rattle.protocol.specs.Answers.{Answer, Accepted, Refused}
 use Rattle.protocol.specs.declared.Version.{Version}
 use Rattle.protocol.specs.declared.Version.TheVariants.{V5, V4}
 use Rattle.protocol.specs.Numbers.{answer_number}

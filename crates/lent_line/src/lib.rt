@@ -6,13 +6,13 @@ ghost use Rattle.std.specs.Prelude.{◌≡◌, length};
 ghost use Rattle.proxy_url.specs.Calls.{read_of};
 ghost use Rattle.lent_line.specs.Line.{version_number, raw_line, ReadsInto};
 
-use buffers::write::copy;
 use error_numbers::answer_number;
-use protocol::{Answer, Version};
+use protocol::Version;
 use proxy_url::ProxyLine;
 use raw_numbers::bit;
 
 // What a line stands for, but user and password: the host is a part of the line. Or 24 and its place.
+// The C interface has its answer as a number.
 #[repr(C)]
 #[derive(Clone, Copy)]
 pub struct RawLine {
@@ -40,8 +40,6 @@ fn version_number(version: Version) -> u8
 fn line_of(read: ProxyLine) -> RawLine
     ensures { result ≡ raw_line read }
 {
-    let answer = read.answer;
-    let version = read.version;
     RawLine {
         place: read.place,
         host_at: read.host_at,
@@ -49,8 +47,8 @@ fn line_of(read: ProxyLine) -> RawLine
         user_len: read.user_len,
         password_len: read.password_len,
         port: read.port,
-        answer: answer_number(answer),
-        version: version_number(version),
+        answer: answer_number(read.answer),
+        version: version_number(read.version),
         local_dns: bit(read.local_dns),
         proxy_auth: bit(read.proxy_auth),
     }
@@ -62,17 +60,11 @@ fn told(read: ProxyLine, user: &mut [u8], password: &mut [u8]) -> RawLine
     requires password_len { length password.old ≡ 255 }
     ensures { ReadsInto read user.old password.old result user.new password.new }
 {
-    let answer = read.answer;
-    match answer {
-        Answer::Accepted => {
-            let name = read.user;
-            let secret = read.password;
-            copy(user, 0, &name);
-            copy(password, 0, &secret);
-            line_of(read)
-        }
-        Answer::Refused(error) => line_of(read),
+    if read.answer.is_ok() {
+        user.copy_from_slice(&read.user);
+        password.copy_from_slice(&read.password);
     }
+    line_of(read)
 }
 
 // Reads a line of any bytes and length.

@@ -3,6 +3,7 @@ ghost use Rattle.std.specs.Prelude.{◌≡◌};
 ghost use Rattle.lent_numbers.specs.told.Told.{outcome_of};
 
 use error_numbers::{number, status};
+use protocol::Outcome;
 
 // How a session, a route or a proxy's end stands: 0 waiting, 1 open, 2 failed with a number and a status, 3 asked, and then the status that grants.
 #[repr(C)]
@@ -14,6 +15,7 @@ pub struct RawOutcome {
 }
 
 // What a call used of the piece and put at the output's start, its answer, which is 0 or the refusal's number, and how it leaves what was lent.
+// The C interface has its answer as a number.
 #[repr(C)]
 #[derive(Clone, Copy)]
 pub struct RawStep {
@@ -23,24 +25,17 @@ pub struct RawStep {
     pub outcome: RawOutcome,
 }
 
-pub fn outcome_of(outcome: protocol::Outcome) -> RawOutcome
+pub fn outcome_of(outcome: Outcome) -> RawOutcome
     ensures { result ≡ outcome_of outcome }
 {
-    match outcome {
-        protocol::Outcome::Waiting => RawOutcome {
-            state: 0,
-            number: 0,
-            status: 0,
-        },
-        protocol::Outcome::Open => RawOutcome {
-            state: 1,
-            number: 0,
-            status: 0,
-        },
-        protocol::Outcome::Failed(error) => RawOutcome {
-            state: 2,
-            number: number(error),
-            status: status(error),
-        },
+    let (state, number, status) = match outcome {
+        Outcome::Waiting => (0, 0, 0),
+        Outcome::Open => (1, 0, 0),
+        Outcome::Failed(error) => (2, number(error), status(error)),
+    };
+    RawOutcome {
+        state,
+        number,
+        status,
     }
 }

@@ -9,7 +9,7 @@ use lib.Seq.{take-take}
 use lib.Dec.{eqb, leb}
 use borrow.Author.Tests.{ne_eqb, le-leb}
 use Rattle.protocol.specs.declared.AddressKind.{AddressKind}
-use Rattle.protocol.specs.declared.Answer.TheVariants.{Accepted}
+use Rattle.protocol.specs.Answers.{Accepted}
 use Rattle.protocol.specs.declared.SocksError.{SocksError}
 use Rattle.protocol.specs.declared.SocksError.TheVariants.{Settled, UnexpectedEof}
 use Rattle.protocol.specs.declared.Version.{Version}
@@ -32,7 +32,7 @@ use Rattle.proxy_delivery.specs.delivery.Received.{Waits}
 use Rattle.proxy_session.specs.declared.Server.{Server}
 use Rattle.proxy_session.specs.Server.{held_bytes, asked_for, view, packed, at_stage, destination, wants}
 use Rattle.proxy_session.specs.Calls.{refusal, answer_by, answer, end}
-use Rattle.proxy_session.proofs.Laws.{is_over_lem, destination_is, wants_is}
+use Rattle.proxy_session.proofs.Laws.{is_over_lem, destination_is, held_is, wants_is}
 use Rattle.proxy_spec.specs.Shortest.{wants_by}
 use Rattle.raw_errors.specs.Errors.{error_of}
 use Rattle.talk.specs.Talk.{ended, failed, is_over}
@@ -146,8 +146,8 @@ module _ (s : List ℕ) where
       let held : take (15 + n - 15) (drop 15 s) ≡ take n (take 1014 (drop 15 s)) = ap (λ (k : ℕ). take k (drop 15 s)) d ∙ sym (take-take n 1014 (drop 15 s) few) in
       let i = bytes 5 in
       let user : take (byte s 5) (drop 1029 s) ≡ take (byte s 5) (take 255 (drop 1029 s)) = sym (take-take (byte s 5) 255 (drop 1029 s) (omega arith)) in
-      wants_is (server_at s) (byte s 5) (byte s 6) n r (hold_long s long) refl refl (y ∙ ap (λ (k : ℕ). min k 1014) x)
-      (t ∙ (λ j. wants_by (record { authenticates = b j; user = (u ∙ user) j; password = p j }) (session_at (stage j) unbound ((z ∙ held) j))))
+      let whole = held_is (server_at s) (y ∙ ap (λ (k : ℕ). min k 1014) x) (hold_long s long) in
+      wants_is (server_at s) (t ∙ (λ j. wants_by (record { authenticates = b j; user = (u ∙ user) j; password = p j }) (session_at (stage j) unbound ((z ∙ held ∙ whole) j))))
 
   pub destination_told : length s ≡ 1539 → {b : Bool} {n h : ℕ} {x : Bound} → b ≡ has_destination (server_at s).stage → b ≡ true → x ≡ (server_at s).bound → n ≡ min h 1014 → h ≡ (server_at s).held
       → target_as (endpoint (kind_of x.kind (take (15 + n - 15) (drop 15 s))) x.port) ≡ destination (server_at s)
@@ -155,4 +155,4 @@ module _ (s : List ℕ) where
       let z : 15 + n - 15 ≡ n = omega arith in
       let few : n ≤ 1014 = omega arith in
       let t : take (15 + n - 15) (drop 15 s) ≡ take n (take 1014 (drop 15 s)) = ap (λ (k : ℕ). take k (drop 15 s)) z ∙ sym (take-take n 1014 (drop 15 s) few) in
-      rw (x, t) (destination_is (server_at s) e q (w ∙ ap (λ (k : ℕ). min k 1014) h) (hold_long s long))
+      rw (x, t) (destination_is (server_at s) e q (held_is (server_at s) (w ∙ ap (λ (k : ℕ). min k 1014) h) (hold_long s long)))

@@ -1,7 +1,6 @@
 -- What a call over lent bytes tells and leaves: the library's call on the end that they mean.
 use Rattle.std.specs.Prelude.{ℕ, ◌≡◌, List}
-use Rattle.protocol.specs.declared.Answer.{Answer}
-use Rattle.protocol.specs.declared.Answer.TheVariants.{Accepted, Refused}
+use Rattle.protocol.specs.Answers.{Answer, Accepted, Refused}
 use Rattle.protocol.specs.declared.AddressKind.{AddressKind}
 use Rattle.protocol.specs.declared.AddressKind.TheVariants.{Ipv4, Ipv6, Domain}
 use Rattle.protocol.specs.declared.Record.{Record}

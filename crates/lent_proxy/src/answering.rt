@@ -27,7 +27,7 @@ fn record_of(raw: RawRecord) -> Record
     let address = raw.address;
     Record {
         family: family_of(raw.kind),
-        address: address,
+        address,
     }
 }
 
@@ -45,14 +45,13 @@ fn answer_asked(
 {
     let stage = Stage::Asked(version);
     let said = proxy_replies::stages::answer(stage, status, record_of(bound), port, out);
-    let next = said.stage;
     let kind = kind_at(s[CODE_AT]);
-    put_stage(s, next, kind);
+    put_stage(s, said.stage, kind);
     RawStep {
         used: 0,
         sent: said.sent,
         answer: 0,
-        outcome: standing_of(next),
+        outcome: standing_of(said.stage),
     }
 }
 
@@ -63,13 +62,11 @@ pub fn answer(s: &mut [u8], status: u8, bound: RawRecord, port: u16, out: &mut [
 {
     let kept = eight_at(s, KEPT_AT);
     let n = stage_at(s[CODE_AT], kept);
-    if n == 11 {
-        return answer_asked(s, Version::V4, status, bound, port, out);
+    match n {
+        11 => answer_asked(s, Version::V4, status, bound, port, out),
+        12 => answer_asked(s, Version::V5, status, bound, port, out),
+        _ => refused(s),
     }
-    if n == 12 {
-        return answer_asked(s, Version::V5, status, bound, port, out);
-    }
-    refused(s)
 }
 
 // The client's stream has ended: an end that waits has failed.

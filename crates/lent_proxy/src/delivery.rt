@@ -1,7 +1,6 @@
 // F-3 and F-7: a client's piece for a proxy's end in lent bytes.
-ghost use Rattle.std.specs.Prelude.{◌≡◌, true, ◌++◌, ◌+◌, ◌≤◌, ◌<◌, min, length, take, drop};
+ghost use Rattle.std.specs.Prelude.{◌≡◌, true, ◌++◌, ◌+◌, ◌≤◌, ◌<◌, length, take, drop};
 ghost use Rattle.protocol.specs.Bytes.{byte};
-ghost use Rattle.protocol.specs.Client.{told};
 ghost use Rattle.talk.specs.Decision.{undecided};
 ghost use Rattle.buffers.specs.write.Written.{overwrite, Wrote};
 ghost use Rattle.proxy_spec.specs.Reads.{text_in, short};
@@ -21,12 +20,14 @@ use crate::state::{
     USER_LEN_AT, authenticates_at, bound_at, field_of, low, put_stage, stage_at,
 };
 use crate::telling::{refused, standing_of};
-use buffers::write::{copy, least, put_byte, wide};
+use buffers::write::{copy, put_byte};
 use lent_numbers::bytes::{eight_at, put_two, two_at};
 use lent_numbers::told::{RawOutcome, RawStep};
-use protocol::{Decision, NAME_V4, USER_ID};
+use protocol::{NAME_V4, USER_ID};
+use proxy_decisions::credentials::Credentials;
 use proxy_delivery::piece::{Taken, came_to};
 use proxy_delivery::turns::{Turn, work};
+use proxy_requests::unread::Unread;
 use proxy_requests::{read_address, read_head, read_methods, read_password, read_user};
 use proxy_spec::Field;
 
@@ -35,7 +36,7 @@ fn waiting(used: usize) -> RawStep
     ensures { result ≡ waiting_step used }
 {
     RawStep {
-        used: used,
+        used,
         sent: 0,
         answer: 0,
         outcome: RawOutcome {
@@ -46,31 +47,13 @@ fn waiting(used: usize) -> RawStep
     }
 }
 
-fn is_undecided(decision: Decision) -> bool
-    ensures { result ≡ true → told decision ≡ undecided }
-{
-    match decision {
-        Decision::Undecided => true,
-        Decision::Decided(n, verdict) => false,
-    }
-}
-
-fn lower(a: u8, b: u8) -> u8
-    ensures { result ≡ min a b }
-{
-    if a < b { a } else { b }
-}
-
 // Whether no byte is 00. All are looked at, several at a time.
 fn has_no_null(bytes: &[u8]) -> bool
     ensures { result ≡ true → NoNull bytes.now }
 {
-    let n = bytes.len();
     let mut least: u8 = 255;
-    let mut i: usize = 0;
-    while i < n {
-        least = lower(least, bytes[i]);
-        i += 1;
+    for &b in bytes {
+        least = least.min(b);
     }
     0 < least
 }
@@ -102,34 +85,19 @@ fn goes_on(held: &[u8], piece: &[u8], most: usize) -> bool
 fn lacks(n: u8, kept: u64, held: &[u8], piece: &[u8]) -> bool
     ensures { result ≡ true → reads (field_of n kept) (held.now ++ piece.now) ≡ undecided }
 {
-    if n == 2 {
-        return is_undecided(read_methods(held, piece));
+    let bytes = Unread::new(held, piece);
+    match n {
+        2 => read_methods(&bytes).is_none(),
+        3 => read_user(&bytes).is_none(),
+        4 => read_password(false, &bytes).is_none(),
+        5 => read_password(true, &bytes).is_none(),
+        6 => read_head(&bytes).is_none(),
+        7 => read_address(low(kept / 256), &bytes).is_none(),
+        8 => held.len() + piece.len() < 7,
+        9 => goes_on(held, piece, USER_ID),
+        10 => goes_on(held, piece, NAME_V4),
+        _ => false,
     }
-    if n == 3 {
-        return is_undecided(read_user(held, piece));
-    }
-    if n == 4 {
-        return is_undecided(read_password(false, held, piece));
-    }
-    if n == 5 {
-        return is_undecided(read_password(true, held, piece));
-    }
-    if n == 6 {
-        return is_undecided(read_head(held, piece));
-    }
-    if n == 7 {
-        return is_undecided(read_address(low(kept / 256), held, piece));
-    }
-    if n == 8 {
-        return held.len() + piece.len() < 7;
-    }
-    if n == 9 {
-        return goes_on(held, piece, USER_ID);
-    }
-    if n == 10 {
-        return goes_on(held, piece, NAME_V4);
-    }
-    false
 }
 
 // Whether a piece decides nothing, and is only to be held.
@@ -137,10 +105,7 @@ fn is_held(s: &[u8], n: u8, kept: u64, held: usize, piece: &[u8]) -> bool
     requires { length s.now ≡ 1539 }
     ensures { result ≡ true → Lacks (field_of n kept) (take 1014 (drop 15 s.now)) held piece.now }
 {
-    if NAME_V4 < piece.len() {
-        return false;
-    }
-    if NAME_V4 - piece.len() < held {
+    if NAME_V4 < piece.len() || NAME_V4 - piece.len() < held {
         return false;
     }
     let end = HOLD_AT + held;
@@ -174,7 +139,7 @@ pub fn text_at(s: &[u8], size: usize, at: usize) -> &[u8]
     requires { (size < length s.now) × (at + 255 ≤ length s.now) }
     ensures { result.now ≡ take (byte s.now size) (drop at s.now) }
 {
-    let end = at + wide(s[size]);
+    let end = at + usize::from(s[size]);
     &s[at..end]
 }
 
@@ -187,17 +152,13 @@ fn work_at(s: &[u8], field: Field, held: usize, piece: &[u8], out: &mut [u8]) ->
     let password = text_at(s, PASSWORD_LEN_AT, PASSWORD_AT);
     let end = HOLD_AT + held;
     let authenticates = authenticates_at(s[CODE_AT]);
-    work(
-        field,
+    let credentials = Credentials {
         authenticates,
         user,
         password,
-        &s[HOLD_AT..end],
-        piece,
-        0,
-        out,
-        0,
-    )
+    };
+    let unread = Unread::new(&s[HOLD_AT..end], piece);
+    work(field, &credentials, &unread, 0, out, 0)
 }
 
 // What a piece came to, beside the hold.
@@ -205,17 +166,15 @@ fn settle(s: &mut [u8], taken: Taken) -> RawStep
     requires { length s.old ≡ 1539 }
     ensures { Settles taken s.old result s.new }
 {
-    let stage = taken.stage;
     let bound = taken.bound;
-    let kind = bound.kind;
     put_two(s, HELD_AT, taken.held);
     put_two(s, PORT_AT, bound.port as usize);
-    put_stage(s, stage, kind);
+    put_stage(s, taken.stage, bound.kind);
     RawStep {
         used: taken.used,
         sent: taken.sent,
         answer: 0,
-        outcome: standing_of(stage),
+        outcome: standing_of(taken.stage),
     }
 }
 
@@ -225,7 +184,7 @@ fn decide(s: &mut [u8], field: Field, held: usize, piece: &[u8], out: &mut [u8])
     ensures { Leaves (deliver (server_at s.old) piece.now out.old) s.old result s.new out.new }
 {
     let bound = bound_at(s);
-    let n = least(held, NAME_V4);
+    let n = held.min(NAME_V4);
     let turn = work_at(s, field, n, piece, out);
     let taken = came_to(turn, &mut s[HOLD_AT..USER_AT], n, piece, bound);
     settle(s, taken)

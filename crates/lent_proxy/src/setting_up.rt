@@ -17,12 +17,7 @@ use raw_numbers::truth;
 fn clear(s: &mut [u8])
     ensures { s.new ≡ replicate (length s.old) 0 }
 {
-    let n = s.len();
-    let mut i = 0;
-    while i < n {
-        s[i] = 0;
-        i += 1;
-    }
+    s.fill(0);
 }
 
 // An end that holds nothing, and knows no credentials.

@@ -1,9 +1,8 @@
 // What lent bytes say of a proxy's end: its stage, what that keeps, and the numbers beside it. And how they come to say another.
 ghost use Rattle.std.specs.Prelude.{◌≡◌, ◌%◌, length};
-ghost use Rattle.lent_proxy.specs.State.{limit, stage_at, ports_of, field_of, stage_of, kind_at, authenticates_at, server_at, password_number, field_number, asked_number, open_number, stage_number, kind_number, code_of, ports_number, field_keeps, stage_keeps};
+ghost use Rattle.lent_proxy.specs.State.{limit, stage_at, ports_of, field_of, stage_of, kind_at, authenticates_at, server_at, field_number, stage_number, kind_number, code_of, ports_number, field_keeps, stage_keeps};
 ghost use Rattle.lent_proxy.specs.Fits.{PortsFit, FieldFits, StageFits, staged, Rewrites};
 
-use buffers::write::wide;
 use error_numbers::{number, status};
 use lent_numbers::bytes::{eight_at, put_eight, two_at};
 use protocol::{AddressKind, Bound, SocksError, Version};
@@ -33,22 +32,12 @@ pub const PASSWORD_AT: usize = 1284;
 fn limit(n: u8) -> u64
     ensures { result ≡ limit n }
 {
-    if n == 0 {
-        return 0;
+    match n {
+        0 | 15 => 0,
+        7 => 65536,
+        9 | 10 => 72057594037927936,
+        _ => 1,
     }
-    if n == 7 {
-        return 65536;
-    }
-    if n == 9 {
-        return 72057594037927936;
-    }
-    if n == 10 {
-        return 72057594037927936;
-    }
-    if n == 15 {
-        return 0;
-    }
-    1
 }
 
 // The number of the stage, 0 if it has failed.
@@ -87,71 +76,42 @@ fn ports_of(m: u64) -> Ports
 pub fn field_of(n: u8, m: u64) -> Field
     ensures { result ≡ field_of n m }
 {
-    if n == 1 {
-        return Field::First;
+    match n {
+        1 => Field::First,
+        2 => Field::Methods,
+        3 => Field::User,
+        4 => Field::Password(false),
+        5 => Field::Password(true),
+        6 => Field::Head,
+        7 => Field::Address(low(m), low(m / 256)),
+        8 => Field::Request,
+        9 => Field::UserId(ports_of(m)),
+        _ => Field::Name(ports_of(m)),
     }
-    if n == 2 {
-        return Field::Methods;
-    }
-    if n == 3 {
-        return Field::User;
-    }
-    if n == 4 {
-        return Field::Password(false);
-    }
-    if n == 5 {
-        return Field::Password(true);
-    }
-    if n == 6 {
-        return Field::Head;
-    }
-    if n == 7 {
-        return Field::Address(low(m), low(m / 256));
-    }
-    if n == 8 {
-        return Field::Request;
-    }
-    if n == 9 {
-        return Field::UserId(ports_of(m));
-    }
-    Field::Name(ports_of(m))
 }
 
 // The stage of a number: failed for one that no other stage has.
 pub fn stage_of(n: u8, m: u64) -> Stage
     ensures { result ≡ stage_of n m }
 {
-    if n == 0 {
-        return Stage::Failed(error_of(low(m), low(m / 256)));
+    match n {
+        1..=10 => Stage::Awaiting(field_of(n, m)),
+        11 => Stage::Asked(Version::V4),
+        12 => Stage::Asked(Version::V5),
+        13 => Stage::Open(Version::V4),
+        14 => Stage::Open(Version::V5),
+        _ => Stage::Failed(error_of(low(m), low(m / 256))),
     }
-    if n <= 10 {
-        return Stage::Awaiting(field_of(n, m));
-    }
-    if n == 11 {
-        return Stage::Asked(Version::V4);
-    }
-    if n == 12 {
-        return Stage::Asked(Version::V5);
-    }
-    if n == 13 {
-        return Stage::Open(Version::V4);
-    }
-    if n == 14 {
-        return Stage::Open(Version::V5);
-    }
-    Stage::Failed(error_of(low(m), low(m / 256)))
 }
 
 pub fn kind_at(code: u8) -> AddressKind
     ensures { result ≡ kind_at code }
 {
-    if code / 32 == 1 {
-        return AddressKind::Ipv6;
+    match code / 32 {
+        1 => AddressKind::Ipv6,
+        2 => AddressKind::Domain,
+        _ => AddressKind::Ipv4,
     }
-    if code / 32 == 2 {
-        return AddressKind::Domain;
-    }
-    AddressKind::Ipv4
 }
 
 pub fn authenticates_at(code: u8) -> bool
@@ -170,12 +130,6 @@ pub fn bound_at(s: &[u8]) -> Bound
     }
 }
 
-fn password_number(right: bool) -> u8
-    ensures { result ≡ password_number right }
-{
-    if right { 5 } else { 4 }
-}
-
 fn field_number(field: Field) -> u8
     ensures { result ≡ field_number field }
 {
@@ -183,30 +137,13 @@ fn field_number(field: Field) -> u8
         Field::First => 1,
         Field::Methods => 2,
         Field::User => 3,
-        Field::Password(right) => password_number(right),
+        Field::Password(false) => 4,
+        Field::Password(true) => 5,
         Field::Head => 6,
-        Field::Address(command, kind) => 7,
+        Field::Address(_, _) => 7,
         Field::Request => 8,
-        Field::UserId(ports) => 9,
-        Field::Name(ports) => 10,
-    }
-}
-
-fn asked_number(version: Version) -> u8
-    ensures { result ≡ asked_number version }
-{
-    match version {
-        Version::V4 => 11,
-        Version::V5 => 12,
-    }
-}
-
-fn open_number(version: Version) -> u8
-    ensures { result ≡ open_number version }
-{
-    match version {
-        Version::V4 => 13,
-        Version::V5 => 14,
+        Field::UserId(_) => 9,
+        Field::Name(_) => 10,
     }
 }
 
@@ -215,9 +152,11 @@ fn stage_number(stage: Stage) -> u8
 {
     match stage {
         Stage::Awaiting(field) => field_number(field),
-        Stage::Asked(version) => asked_number(version),
-        Stage::Open(version) => open_number(version),
-        Stage::Failed(error) => 0,
+        Stage::Asked(Version::V4) => 11,
+        Stage::Asked(Version::V5) => 12,
+        Stage::Open(Version::V4) => 13,
+        Stage::Open(Version::V5) => 14,
+        Stage::Failed(_) => 0,
     }
 }
 
@@ -240,23 +179,19 @@ fn code_of(stage: Stage, authenticates: bool, kind: AddressKind) -> u8
 fn ports_number(p: Ports) -> usize
     ensures { (result ≡ ports_number p) × PortsFit p }
 {
-    let ip = wide(p.first) + 256 * (wide(p.second) + 256 * (wide(p.third) + 256 * wide(p.fourth)));
-    wide(p.command) + 256 * (p.port as usize + 65536 * ip)
+    let ip = usize::from(p.first)
+        + 256
+            * (usize::from(p.second) + 256 * (usize::from(p.third) + 256 * usize::from(p.fourth)));
+    usize::from(p.command) + 256 * (usize::from(p.port) + 65536 * ip)
 }
 
 fn field_keeps(field: Field) -> usize
     ensures { (result ≡ field_keeps field) × FieldFits field }
 {
     match field {
-        Field::First => 0,
-        Field::Methods => 0,
-        Field::User => 0,
-        Field::Password(right) => 0,
-        Field::Head => 0,
-        Field::Address(command, kind) => wide(command) + 256 * wide(kind),
-        Field::Request => 0,
-        Field::UserId(ports) => ports_number(ports),
-        Field::Name(ports) => ports_number(ports),
+        Field::Address(command, kind) => usize::from(command) + 256 * usize::from(kind),
+        Field::UserId(ports) | Field::Name(ports) => ports_number(ports),
+        _ => 0,
     }
 }
 
@@ -265,9 +200,8 @@ fn stage_keeps(stage: Stage) -> usize
 {
     match stage {
         Stage::Awaiting(field) => field_keeps(field),
-        Stage::Asked(version) => 0,
-        Stage::Open(version) => 0,
-        Stage::Failed(error) => wide(number(error)) + 256 * wide(status(error)),
+        Stage::Asked(_) | Stage::Open(_) => 0,
+        Stage::Failed(error) => usize::from(number(error)) + 256 * usize::from(status(error)),
     }
 }
 

@@ -11,11 +11,11 @@ use crate::state::{
     CODE_AT, HELD_AT, HOLD_AT, KEPT_AT, PASSWORD_AT, PASSWORD_LEN_AT, USER_AT, USER_LEN_AT,
     authenticates_at, bound_at, stage_at, stage_of,
 };
-use buffers::write::least;
 use error_numbers::{number, status};
 use lent_numbers::bytes::{eight_at, two_at};
 use lent_numbers::told::{RawOutcome, RawStep};
 use protocol::{AddressKind, NAME_V4, SocksError};
+use proxy_decisions::credentials::Credentials;
 use proxy_decisions::destination::{Target, as_target};
 use proxy_replies::stages::{has_destination, success};
 use proxy_session::no_target;
@@ -35,27 +35,16 @@ pub struct RawTarget {
 pub fn standing_of(stage: Stage) -> RawOutcome
     ensures { result ≡ standing_of stage }
 {
-    match stage {
-        Stage::Awaiting(field) => RawOutcome {
-            state: 0,
-            number: 0,
-            status: 0,
-        },
-        Stage::Asked(version) => RawOutcome {
-            state: 3,
-            number: 0,
-            status: success(version),
-        },
-        Stage::Open(version) => RawOutcome {
-            state: 1,
-            number: 0,
-            status: 0,
-        },
-        Stage::Failed(error) => RawOutcome {
-            state: 2,
-            number: number(error),
-            status: status(error),
-        },
+    let (state, number, status) = match stage {
+        Stage::Awaiting(_) => (0, 0, 0),
+        Stage::Asked(version) => (3, 0, success(version)),
+        Stage::Open(_) => (1, 0, 0),
+        Stage::Failed(error) => (2, number(error), status(error)),
+    };
+    RawOutcome {
+        state,
+        number,
+        status,
     }
 }
 
@@ -94,13 +83,12 @@ fn size_of(kind: AddressKind, len: usize) -> usize
 fn target_of(target: Target) -> RawTarget
     ensures { result ≡ target_of target }
 {
-    let kind = target.kind;
     let bytes = target.bytes;
     RawTarget {
-        len: size_of(kind, target.len),
+        len: size_of(target.kind, target.len),
         port: target.port,
-        kind: kind_number(kind),
-        bytes: bytes,
+        kind: kind_number(target.kind),
+        bytes,
     }
 }
 
@@ -111,7 +99,7 @@ pub fn destination(s: &[u8]) -> RawTarget
 {
     let kept = eight_at(s, KEPT_AT);
     if has_destination(stage_of(stage_at(s[CODE_AT], kept), kept)) {
-        let end = HOLD_AT + least(two_at(s, HELD_AT), NAME_V4);
+        let end = HOLD_AT + two_at(s, HELD_AT).min(NAME_V4);
         return target_of(as_target(bound_at(s), &s[HOLD_AT..end]));
     }
     target_of(no_target())
@@ -126,7 +114,12 @@ pub fn wants(s: &[u8]) -> usize
     let stage = stage_of(stage_at(s[CODE_AT], kept), kept);
     let user = text_at(s, USER_LEN_AT, USER_AT);
     let password = text_at(s, PASSWORD_LEN_AT, PASSWORD_AT);
-    let end = HOLD_AT + least(two_at(s, HELD_AT), NAME_V4);
+    let end = HOLD_AT + two_at(s, HELD_AT).min(NAME_V4);
     let authenticates = authenticates_at(s[CODE_AT]);
-    proxy_decisions::wants::wants(stage, authenticates, user, password, &s[HOLD_AT..end])
+    let credentials = Credentials {
+        authenticates,
+        user,
+        password,
+    };
+    proxy_decisions::wants::wants(stage, &credentials, &s[HOLD_AT..end])
 }

@@ -8,7 +8,7 @@ use lib.ListN.{length, replicate, length-append, length-replicate}
 use lib.Dec.{leb}
 use Rattle.protocol.specs.declared.AuthMethod.TheVariants.{NoAuth}
 use Rattle.protocol.specs.declared.Reply.TheVariants.{NegotiationRes}
-use Rattle.protocol.specs.declared.Answer as code
+use Rattle.protocol.specs.Answers as code
 use Rattle.protocol.specs.declared.SocksError.TheVariants.{RouteLength}
 use Rattle.protocol.specs.Bound.{unbound, bound_of}
 use Rattle.protocol.specs.Opening.{Opening, v5, v4, no_auth, user_pass, Limits, refuse}

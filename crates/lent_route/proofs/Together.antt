@@ -10,9 +10,7 @@ use lib.ListN.{length, take, drop, replicate, length-append, length-map, length-
 use lib.Seq.{take_at, drop_at, take-nil, take_all}
 use lib.Dec.{eqb, leb, ltb}
 use borrow.Author.Tests.{leb-true, leb-false, eq-eqb, ne_eqb, lt-ltb, le-ltb}
-use Rattle.protocol.specs.declared.Port.{Port}
-use Rattle.protocol.specs.declared.Answer as code
-use Rattle.protocol.specs.declared.Answer.TheVariants.{Accepted, Refused}
+use Rattle.protocol.specs.Answers as code
 use Rattle.protocol.specs.declared.SocksError.{SocksError}
 use Rattle.protocol.specs.declared.SocksError.TheVariants.{RouteLength}
 use Rattle.protocol.specs.declared.Version as version
@@ -45,18 +43,18 @@ use Rattle.lent_route.proofs.Prepared.{each_slotted, session_of, hold_zeros, pre
 
 -- ---- answers in a row
 
-clash : {e : SocksError} → Refused e ≡ Accepted → ⊥
+clash : {e : SocksError} → code.Refused e ≡ code.Accepted → ⊥
 clash q = let z : ◌≡◌ {A = ℕ} 0 1 = cc in absurd (omega arith)
 
-unless_both : (x y : code.Answer) → unless_refused x y ≡ Accepted → (x ≡ Accepted) × (y ≡ Accepted)
-unless_both Accepted y q = (refl, q)
-unless_both (Refused e) y q = absurd (clash q)
+unless_both : (x y : code.Answer) → unless_refused x y ≡ code.Accepted → (x ≡ code.Accepted) × (y ≡ code.Accepted)
+unless_both code.Accepted y q = (refl, q)
+unless_both (code.Refused e) y q = absurd (clash q)
 
 unless_row : (x y z : code.Answer) → unless_refused (unless_refused x y) z ≡ unless_refused x (unless_refused y z)
-unless_row Accepted y z = refl
-unless_row (Refused e) y z = refl
+unless_row code.Accepted y z = refl
+unless_row (code.Refused e) y z = refl
 
-refuse_not : (b : Bool) (e : SocksError) (x : code.Answer) → refuse b e x ≡ Accepted → (b ≡ false) × (x ≡ Accepted)
+refuse_not : (b : Bool) (e : SocksError) (x : code.Answer) → refuse b e x ≡ code.Accepted → (b ≡ false) × (x ≡ code.Accepted)
 refuse_not true e x q = absurd (clash q)
 refuse_not false e x q = (refl, q)
 
@@ -105,30 +103,30 @@ module _ (e : SocksError) where
 -- ---- the hops, from so many on
 
 unfoldable in_turn : ℕ → List Asked → code.Answer
-in_turn n [] = Accepted
+in_turn n [] = code.Accepted
 in_turn n (a ∷ later) = unless_refused (refuse (leb 8 n) RouteLength (check_for a)) (in_turn (suc n) later)
 
 -- an accepted one keeps to its limits: there is no record of a lookup
 abbrev Limited : List Asked → Type 0
 Limited [] = Unit {0}
-Limited (a ∷ later) = (check_for a ≡ Accepted → Limits (opening_for a)) × Limited later
+Limited (a ∷ later) = (check_for a ≡ code.Accepted → Limits (opening_for a)) × Limited later
 
-limited_by : (v : version.Version) (p : Proxy) (host : List ℕ) (port : Port) → check_for (asked_by v p host port) ≡ Accepted → Limits (opening_for (asked_by v p host port))
+limited_by : (v : version.Version) (p : Proxy) (host : List ℕ) (port : code.Port) → check_for (asked_by v p host port) ≡ code.Accepted → Limits (opening_for (asked_by v p host port))
 limited_by Version.V5 p host port e = limits5 _ (λ r m. absurd (Memᴰ.not-nil m)) e
 limited_by Version.V4 p host port e = limits4 _ e
 
-limited : (ps : List Proxy) (host : List ℕ) (port : Port) → Limited (asked_of ps host port)
+limited : (ps : List Proxy) (host : List ℕ) (port : code.Port) → Limited (asked_of ps host port)
 unfolding asked_of
 limited [] host port = tt
 limited (p ∷ ps) host port = (limited_by p.version p (host_of ps host) (port_of ps port), limited ps host port)
 
 record Kept (later : List Asked) (os : List Opening) : Type 0 where
-  told : all_told later (preparing_of os) ≡ Accepted
+  told : all_told later (preparing_of os) ≡ code.Accepted
   left : all_hopped later (preparing_of os) ≡ preparing_of (os ++ map opening_for later)
   limits : EachLimits (map opening_for later)
   few : length os + length later ≤ 8
 
-all_kept : (later : List Asked) (os : List Opening) → length os ≤ 8 → Limited later → in_turn (length os) later ≡ Accepted → Kept later os
+all_kept : (later : List Asked) (os : List Opening) → length os ≤ 8 → Limited later → in_turn (length os) later ≡ code.Accepted → Kept later os
 unfolding in_turn all_told all_hopped
 all_kept [] os m w q = record { told = refl; left = ap preparing_of (sym (append-nil os)); limits = tt; few = omega arith }
 all_kept (a ∷ later) os m (u, w) q =
@@ -147,10 +145,10 @@ all_kept (a ∷ later) os m (u, w) q =
     }
 
 record Stopped (e : SocksError) (later : List Asked) (os : List Opening) : Type 0 where
-  told : all_told later (preparing_of os) ≡ Refused e
+  told : all_told later (preparing_of os) ≡ code.Refused e
   left : all_hopped later (preparing_of os) ≡ state_of (empty_route e)
 
-some_stopped : (e : SocksError) (later : List Asked) (os : List Opening) → length os ≤ 8 → Limited later → in_turn (length os) later ≡ Refused e → Stopped e later os
+some_stopped : (e : SocksError) (later : List Asked) (os : List Opening) → length os ≤ 8 → Limited later → in_turn (length os) later ≡ code.Refused e → Stopped e later os
 unfolding in_turn all_told all_hopped
 some_stopped e [] os m w q = absurd (clash (sym q))
 some_stopped e (a ∷ later) os m (u, w) q = go (some_stopped e later (os ++ (opening_for a ∷ []))) (refuse (leb 8 (length os)) RouteLength (check_for a)) refl q
@@ -158,17 +156,17 @@ some_stopped e (a ∷ later) os m (u, w) q = go (some_stopped e later (os ++ (op
     o : Opening
     o = opening_for a
 
-    go : (length (os ++ (opening_for a ∷ [])) ≤ 8 → Limited later → in_turn (length (os ++ (opening_for a ∷ []))) later ≡ Refused e → Stopped e later (os ++ (opening_for a ∷ [])))
-        → (x : code.Answer) → refuse (leb 8 (length os)) RouteLength (check_for a) ≡ x → unless_refused x (in_turn (suc (length os)) later) ≡ Refused e → Stopped e (a ∷ later) os
-    go ih (Refused f) x q =
+    go : (length (os ++ (opening_for a ∷ [])) ≤ 8 → Limited later → in_turn (length (os ++ (opening_for a ∷ []))) later ≡ code.Refused e → Stopped e later (os ++ (opening_for a ∷ [])))
+        → (x : code.Answer) → refuse (leb 8 (length os)) RouteLength (check_for a) ≡ x → unless_refused x (in_turn (suc (length os)) later) ≡ code.Refused e → Stopped e (a ∷ later) os
+    go ih (code.Refused f) x q =
         record {
           told = (λ i. unless_refused ((hop_told_lem a os m ∙ x) i) (all_told later (hopped a (preparing_of os)))) ∙ q;
-          left = ap (all_hopped later) (hop_left_lem a os m x) ∙ failed_hops f later ∙ ap state_of (is (Refused f) q);
+          left = ap (all_hopped later) (hop_left_lem a os m x) ∙ failed_hops f later ∙ ap state_of (is (code.Refused f) q);
         }
       where
-        is : (y : code.Answer) → y ≡ Refused e → empty_route f ≡ empty_route e
+        is : (y : code.Answer) → y ≡ code.Refused e → empty_route f ≡ empty_route e
         is y r = let z : f ≡ e = cc in ap empty_route z
-    go ih Accepted x q =
+    go ih code.Accepted x q =
         let (b, z) = refuse_not (leb 8 (length os)) RouteLength (check_for a) x in
         let few : length os < 8 = leb-false 8 (length os) b in
         let size : suc (length os) ≡ length (os ++ (o ∷ [])) = omega (arith, length-append os (o ∷ [])) in
@@ -181,13 +179,13 @@ some_stopped e (a ∷ later) os m (u, w) q = go (some_stopped e later (os ++ (op
 
 -- ---- and by the numbers in one call's order
 
-turns : (n : ℕ) (asks : List Asked) → n ≤ 8 → in_turn n asks ≡ unless_refused (check_in_turn (take (8 - n) asks)) (refuse (ltb 8 (n + length asks)) RouteLength Accepted)
+turns : (n : ℕ) (asks : List Asked) → n ≤ 8 → in_turn n asks ≡ unless_refused (check_in_turn (take (8 - n) asks)) (refuse (ltb 8 (n + length asks)) RouteLength code.Accepted)
 unfolding in_turn check_in_turn
 turns n [] m = rw (take-nil {A = Asked} (8 - n), le-ltb 8 (n + 0) (omega arith))
 turns n (a ∷ later) m = go (turns (suc n) later) (leb 8 n) refl
   where
-    go : (suc n ≤ 8 → in_turn (suc n) later ≡ unless_refused (check_in_turn (take (8 - suc n) later)) (refuse (ltb 8 (suc n + length later)) RouteLength Accepted)) → (b : Bool) → leb 8 n ≡ b
-        → unless_refused (refuse b RouteLength (check_for a)) (in_turn (suc n) later) ≡ unless_refused (check_in_turn (take (8 - n) (a ∷ later))) (refuse (ltb 8 (n + suc (length later))) RouteLength Accepted)
+    go : (suc n ≤ 8 → in_turn (suc n) later ≡ unless_refused (check_in_turn (take (8 - suc n) later)) (refuse (ltb 8 (suc n + length later)) RouteLength code.Accepted)) → (b : Bool) → leb 8 n ≡ b
+        → unless_refused (refuse b RouteLength (check_for a)) (in_turn (suc n) later) ≡ unless_refused (check_in_turn (take (8 - n) (a ∷ later))) (refuse (ltb 8 (n + suc (length later))) RouteLength code.Accepted)
     go ih true q =
         let h = leb-true 8 n q in
         let z : 8 - n ≡ 0 = omega arith in
@@ -196,7 +194,7 @@ turns n (a ∷ later) m = go (turns (suc n) later) (leb 8 n) refl
         let h = leb-false 8 n q in
         let z : 8 - n ≡ suc (8 - suc n) = omega arith in
         let y : n + suc (length later) ≡ suc n + length later = omega arith in
-        rw (z, y, ih (omega arith)) (sym (unless_row (check_for a) (check_in_turn (take (8 - suc n) later)) (refuse (ltb 8 (suc n + length later)) RouteLength Accepted)))
+        rw (z, y, ih (omega arith)) (sym (unless_row (check_for a) (check_in_turn (take (8 - suc n) later)) (refuse (ltb 8 (suc n + length later)) RouteLength code.Accepted)))
 
 -- ---- an opening of what was prepared
 
@@ -244,7 +242,7 @@ module _ (o : Opening) (os : List Opening) (w : EachLimits (o ∷ os)) (m : leng
   kept_is : drop 282 s ≡ kept
   kept_is = ap (drop 282) (prepared_row c kept m) ∙ drop_at head kept 282 (prepared_head c kept m)
 
-  pub opens_left : open_left Accepted (started_for o os) s ≡ state_of (started_for o os)
+  pub opens_left : open_left code.Accepted (started_for o os) s ≡ state_of (started_for o os)
   opens_left =
       let h : take c (hops_for (o ∷ os) ++ drop c (replicate 8 no_hop)) ≡ hops_for (o ∷ os) = take_at (hops_for (o ∷ os)) (drop c (replicate 8 no_hop)) c (hops_size (o ∷ os)) in
       let b : take (1024 * c) (bytes_for (o ∷ os) ++ drop (1024 * c) (replicate 8192 0)) ≡ bytes_for (o ∷ os) = take_at (bytes_for (o ∷ os)) (drop (1024 * c) (replicate 8192 0)) (1024 * c) (bytes_size (o ∷ os) w) in
@@ -260,11 +258,11 @@ record Row (asks : List Asked) (out : List ℕ) : Type 0 where
   answer : unless_refused (all_told asks begun) (open_told (phase_at (all_hopped asks begun)) (all_hopped asks begun) out) ≡ (open_by (verdict asks) (map opening_for asks) out).answer
   left : open_leaves (phase_at (all_hopped asks begun)) (all_hopped asks begun) out ≡ state_of (open_by (verdict asks) (map opening_for asks) out).session
   output : open_puts (phase_at (all_hopped asks begun)) (all_hopped asks begun) out ≡ (open_by (verdict asks) (map opening_for asks) out).output
-  hops : verdict asks ≡ Accepted → all_told asks begun ≡ Accepted
-  opens : verdict asks ≡ Accepted → (phase_at (all_hopped asks begun) ≡ preparing) × (open_call (all_hopped asks begun) out ≡ open_by (verdict asks) (map opening_for asks) out)
+  hops : verdict asks ≡ code.Accepted → all_told asks begun ≡ code.Accepted
+  opens : verdict asks ≡ code.Accepted → (phase_at (all_hopped asks begun) ≡ preparing) × (open_call (all_hopped asks begun) out ≡ open_by (verdict asks) (map opening_for asks) out)
 
 -- with all hops accepted
-row_open : {told : code.Answer} (s out : List ℕ) → told ≡ Accepted → phase_at s ≡ preparing → (c : Call) → open_call s out ≡ c → open_left c.answer c.session s ≡ state_of c.session
+row_open : {told : code.Answer} (s out : List ℕ) → told ≡ code.Accepted → phase_at s ≡ preparing → (c : Call) → open_call s out ≡ c → open_left c.answer c.session s ≡ state_of c.session
     → (unless_refused told (open_told (phase_at s) s out) ≡ c.answer) × (open_leaves (phase_at s) s out ≡ state_of c.session) × (open_puts (phase_at s) s out ≡ c.output)
 row_open s out t p c q l = (
   (λ i. unless_refused (t i) (open_told (p i) s out)) ∙ ap (λ (x : Call). x.answer) q,
@@ -287,10 +285,10 @@ rows (a ∷ later) out w = go (verdict (a ∷ later)) refl
     os = map opening_for later
 
     by_turns : in_turn 0 (a ∷ later) ≡ verdict (a ∷ later)
-    by_turns = turns 0 (a ∷ later) (omega arith) ∙ ap (λ (n : ℕ). unless_refused (check_in_turn (take 8 (a ∷ later))) (refuse (ltb 8 n) RouteLength Accepted)) (zero-add (length (a ∷ later)))
+    by_turns = turns 0 (a ∷ later) (omega arith) ∙ ap (λ (n : ℕ). unless_refused (check_in_turn (take 8 (a ∷ later))) (refuse (ltb 8 n) RouteLength code.Accepted)) (zero-add (length (a ∷ later)))
 
     go : (v : code.Answer) → verdict (a ∷ later) ≡ v → Row (a ∷ later) out
-    go Accepted q =
+    go code.Accepted q =
         let k = all_kept (a ∷ later) [] (omega arith) w (by_turns ∙ q) in
         let m : length (opening_for a ∷ os) ≤ 8 = omega (arith, k.few, length-map later opening_for) in
         let o = opening_for a in
@@ -308,7 +306,7 @@ rows (a ∷ later) out w = go (verdict (a ∷ later)) refl
           hops = λ t. k.told;
           opens = λ t. (ap phase_at r ∙ p, ap (λ (u : List ℕ). open_call u out) r ∙ e ∙ sym d);
         }
-    go (Refused f) q =
+    go (code.Refused f) q =
         let k = some_stopped f (a ∷ later) [] (omega arith) w (by_turns ∙ q) in
         let s = state_of (empty_route f) in
         let r : all_hopped (a ∷ later) begun ≡ s = k.left in
@@ -324,9 +322,9 @@ rows (a ∷ later) out w = go (verdict (a ∷ later)) refl
 
 -- ---- and in one call
 
-unless_nothing : (x : code.Answer) → unless_refused x Accepted ≡ x
-unless_nothing Accepted = refl
-unless_nothing (Refused e) = refl
+unless_nothing : (x : code.Answer) → unless_refused x code.Accepted ≡ x
+unless_nothing code.Accepted = refl
+unless_nothing (code.Refused e) = refl
 
 module _ (a : routing.Route) (m : length a.proxies ≤ 8) (out : List ℕ) (l : length out ≡ 8192) where
   by_check : (asks : List Asked) → length asks ≡ length a.proxies → asks ≡ asked a → verdict asks ≡ check a (length out)

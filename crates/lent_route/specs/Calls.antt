@@ -1,7 +1,6 @@
 -- F-5: what a call on a route in lent bytes tells and leaves.
 use Rattle.std.specs.Prelude.{ℕ, suc, ◌+◌, ◌-◌, ◌*◌, ◌≡◌, false, cond, ◌||◌, List, [], ◌++◌, eqb, leb, ltb, take, drop, replicate}
-use Rattle.protocol.specs.declared.Answer as code
-use Rattle.protocol.specs.declared.Answer.TheVariants.{Accepted, Refused}
+use Rattle.protocol.specs.Answers as code
 use Rattle.protocol.specs.declared.SocksError.{SocksError}
 use Rattle.protocol.specs.declared.SocksError.TheVariants.{RouteLength, Settled, OutOfOrder}
 use Rattle.protocol.specs.Numbers.{number, answer_number}
@@ -52,8 +51,8 @@ onward x r =
 
 -- a refused call leaves every byte as it was
 abbrev pub left_by : code.Answer → Route → List ℕ → List ℕ
-left_by Accepted after state = sessions.state_of (onward (session_at state) after)
-left_by (Refused e) after state = state
+left_by code.Accepted after state = sessions.state_of (onward (session_at state) after)
+left_by (code.Refused e) after state = state
 
 pub record Leaves (c : Call) (state : List ℕ) (r : RawStep) (state' out' : List ℕ) : Type 0 where
   pub returned : r ≡ step_by c
@@ -93,8 +92,8 @@ asked4 host port = over4 (record { local_dns = false; host = host; port = port_o
 -- its opening's number, 21 for a ninth; once it is opened 22, and settled 16
 abbrev pub hop_answer : Phase → ℕ → Asked → code.Answer
 hop_answer preparing count a = refuse (leb 8 count) RouteLength (check_for a)
-hop_answer opened count a = Refused OutOfOrder
-hop_answer over count a = Refused Settled
+hop_answer opened count a = code.Refused OutOfOrder
+hop_answer over count a = code.Refused Settled
 
 -- accepted, it is kept in the slot before those in use
 abbrev pub with_hop : List ℕ → Opening → List ℕ
@@ -106,8 +105,8 @@ with_hop s o =
 
 -- refused, the route is empty and has failed with that error; out of turn nothing changes
 abbrev pub hop_left : Phase → code.Answer → List ℕ → Opening → List ℕ
-hop_left preparing Accepted s o = with_hop s o
-hop_left preparing (Refused e) s o = state_of (empty_route e)
+hop_left preparing code.Accepted s o = with_hop s o
+hop_left preparing (code.Refused e) s o = state_of (empty_route e)
 hop_left opened x s o = s
 hop_left over x s o = s
 
@@ -131,8 +130,8 @@ open_call s out =
     cond (eqb n 0 || ltb 8 n) (refusal RouteLength (empty_route RouteLength) out) (begins (begun_with hops bytes n) (goes_at hops bytes (n - 1)) out)
 
 abbrev pub open_left : code.Answer → Route → List ℕ → List ℕ
-open_left Accepted after s = carried after (drop 282 s)
-open_left (Refused e) after s = state_of after
+open_left code.Accepted after s = carried after (drop 282 s)
+open_left (code.Refused e) after s = state_of after
 
 pub record Opens (state out : List ℕ) (r : RawStep) (state' out' : List ℕ) : Type 0 where
   pub returned : r ≡ step_by (open_call state out)

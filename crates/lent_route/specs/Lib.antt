@@ -2,5 +2,4 @@ pub mod State
 pub mod Calls
 pub mod Together
 pub mod preparing
-pub mod relay
 pub mod delivery

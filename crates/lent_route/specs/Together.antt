@@ -1,7 +1,6 @@
 -- F-5's promise on the calls together: an empty route, the hops in their order and an opening, one call each, come to what one opening of that route comes to.
 use Rattle.std.specs.Prelude.{ℕ, ◌≤◌, ◌≡◌, List, [], ◌∷◌, ltb, length, take}
-use Rattle.protocol.specs.declared.Answer as code
-use Rattle.protocol.specs.declared.Answer.TheVariants.{Accepted, Refused}
+use Rattle.protocol.specs.Answers as code
 use Rattle.protocol.specs.declared.SocksError.TheVariants.{RouteLength, Settled, OutOfOrder}
 use Rattle.protocol.specs.Opening.{refuse}
 use Rattle.route_spec.specs.Route as routing
@@ -21,14 +20,14 @@ all_hopped [] s = s
 all_hopped (a ∷ later) s = all_hopped later (hopped a s)
 
 unfoldable pub all_told : List Asked → List ℕ → code.Answer
-all_told [] s = Accepted
+all_told [] s = code.Accepted
 all_told (a ∷ later) s = unless_refused (hop_told a s) (all_told later (hopped a s))
 
 -- and what an opening then answers, leaves and puts out
 abbrev pub open_told : Phase → List ℕ → List ℕ → code.Answer
 open_told preparing s out = (open_call s out).answer
-open_told opened s out = Refused OutOfOrder
-open_told over s out = Refused Settled
+open_told opened s out = code.Refused OutOfOrder
+open_told over s out = code.Refused Settled
 
 abbrev pub open_leaves : Phase → List ℕ → List ℕ → List ℕ
 open_leaves preparing s out = let c = open_call s out in open_left c.answer c.session s
@@ -43,8 +42,8 @@ open_puts over s out = out
 -- ---- the numbers: 21 for none; a proxy's own defect ahead of a ninth's 21
 
 abbrev pub verdict : List Asked → code.Answer
-verdict [] = Refused RouteLength
-verdict (a ∷ later) = unless_refused (check_in_turn (take 8 (a ∷ later))) (refuse (ltb 8 (length (a ∷ later))) RouteLength Accepted)
+verdict [] = code.Refused RouteLength
+verdict (a ∷ later) = unless_refused (check_in_turn (take 8 (a ∷ later))) (refuse (ltb 8 (length (a ∷ later))) RouteLength code.Accepted)
 
 -- what the hops that a route asks for leave, and one opening of it but for the order of those numbers
 abbrev pub reached : routing.Route → List ℕ
@@ -59,7 +58,7 @@ pub record Together (a : routing.Route) (out : List ℕ) : Type 0 where
   pub left : open_leaves (phase_at (reached a)) (reached a) out ≡ state_of (at_once a out).session
   pub output : open_puts (phase_at (reached a)) (reached a) out ≡ (at_once a out).output
   -- accepted, every hop was, and the opening is the route value's
-  pub hops : verdict (asked a) ≡ Accepted → all_told (asked a) begun ≡ Accepted
-  pub opens : verdict (asked a) ≡ Accepted → (phase_at (reached a) ≡ preparing) × (open_call (reached a) out ≡ at_once a out)
+  pub hops : verdict (asked a) ≡ code.Accepted → all_told (asked a) begun ≡ code.Accepted
+  pub opens : verdict (asked a) ≡ code.Accepted → (phase_at (reached a) ≡ preparing) × (open_call (reached a) out ≡ at_once a out)
   -- of eight proxies at most, with 8,192 bytes of output, it is one opening
   pub one : length a.proxies ≤ 8 → length out ≡ 8192 → at_once a out ≡ opening a out

@@ -8,16 +8,15 @@ ghost use Rattle.lent_route.specs.State.{phase_at, route_at};
 ghost use Rattle.lent_route.specs.Calls.{Leaves, Delivers};
 ghost use Rattle.lent_route.specs.delivery.Settling.{spot_in, Short, Settles};
 
-use crate::relay::relay;
 use crate::state::{BEHIND_AT, BYTES_AT, COUNT_AT, hops_at, put_spoken};
-use buffers::write::{copy, least};
+use buffers::write::copy;
 use client_stages::due::{Lengths, Stage};
 use lent_numbers::bytes::{eight_at, two_at};
 use lent_numbers::told::{RawStep, outcome_of};
 use lent_session::delivery::{append, is_held, refused};
 use lent_session::state::{HELD_AT, SESSION, awaited, bound_at, is_started, lengths_at, reply_of};
 use protocol::{HOLD, PROXIES, REQUESTS, SocksError};
-use route_delivery::{Relayed, Spot};
+use route_delivery::{Relayed, Row, Spot};
 use route_session::calls::last_of;
 
 // Whether a piece decides nothing, and is only to be held. In forged bytes the number behind may be too large, and is then to be written.
@@ -25,14 +24,8 @@ fn is_short(s: &[u8], n: u8, held: usize, len: usize) -> bool
     requires { length s.now ≡ 8538 }
     ensures { result ≡ true → (e : Reply) → n ≡ reply_number e → Short e s.now held len }
 {
-    if len == 0 {
-        return false;
-    }
     let count = two_at(s, COUNT_AT);
-    if PROXIES < count {
-        return false;
-    }
-    if count <= two_at(s, BEHIND_AT) {
+    if len == 0 || PROXIES < count || count <= two_at(s, BEHIND_AT) {
         return false;
     }
     is_held(&s[..SESSION], n, held, len)
@@ -44,25 +37,16 @@ fn settle(s: &mut [u8], reached: Relayed, hold: &[u8]) -> RawStep
     ensures { Settles s.old reached hold.now result s.new }
 {
     let spot = reached.spot;
-    let stage = spot.stage;
-    let lengths = lengths_at(&s[..SESSION]);
-    put_spoken(
-        s,
-        spot,
-        Lengths {
-            optimistic: lengths.optimistic,
-            first: lengths.first,
-            authentication: spot.behind,
-            proxy: lengths.proxy,
-        },
-        hold,
-    );
-    let outcome = client_stages::outcome::outcome(stage);
+    let lengths = Lengths {
+        authentication: spot.behind,
+        ..lengths_at(&s[..SESSION])
+    };
+    put_spoken(s, spot, lengths, hold);
     RawStep {
         used: reached.used,
         sent: spot.sent,
         answer: 0,
-        outcome: outcome_of(outcome),
+        outcome: outcome_of(client_stages::outcome::outcome(spot.stage)),
     }
 }
 
@@ -73,9 +57,9 @@ fn spot_at(s: &[u8], n: u8, held: usize, last: usize) -> Spot
     ensures attempts_bound { result.attempts < 2 ^ 64 }
 {
     Spot {
-        behind: least(two_at(s, BEHIND_AT), last),
+        behind: two_at(s, BEHIND_AT).min(last),
         stage: Stage::Awaiting(reply_of(n)),
-        held: held,
+        held,
         bound: bound_at(&s[..SESSION]),
         attempts: eight_at(s, 0),
         sent: 0,
@@ -93,7 +77,11 @@ fn decide(s: &mut [u8], n: u8, held: usize, piece: &[u8], out: &mut [u8]) -> Raw
     let from = BYTES_AT + REQUESTS * (7 - last);
     let mut hold = [0u8; HOLD];
     copy(&mut hold, 0, &s[21..282]);
-    let reached = relay(hops, spot, &s[from..], &mut hold, piece, out);
+    let row = Row {
+        hops: &hops,
+        bytes: &s[from..],
+    };
+    let reached = row.relay(spot, &mut hold, piece, out);
     settle(s, reached, &hold)
 }
 

@@ -4,6 +4,5 @@
 
 pub mod delivery;
 pub mod preparing;
-pub mod relay;
 pub mod state;
 pub mod telling;

@@ -21,10 +21,9 @@ use lent_numbers::told::{RawOutcome, RawStep};
 use lent_session::delivery::{refused, waiting};
 use lent_session::preparing::{RawConfig, clear};
 use lent_session::state::{CODE_AT, SESSION, awaited, is_started, reply_number};
-use lookup::none_found;
-use protocol::{AddressKind, Answer, Bound, HOLD, PROXIES, REQUESTS, SocksConfig, SocksError};
+use protocol::{HOLD, PROXIES, REQUESTS, SocksConfig, SocksError};
 use raw_numbers::{bit, port_of, truth};
-use route_delivery::Spot;
+use route_delivery::{Row, Spot};
 
 // An empty route, which hops are added to.
 pub fn begin(s: &mut [u8])
@@ -90,12 +89,12 @@ fn keep(s: &mut [u8], count: usize, begun: Begun) -> u8
     let stage = begun.stage;
     let lengths = begun.lengths;
     match answer {
-        Answer::Accepted => {
+        Ok(()) => {
             put_slot(s, SLOTS_AT + 8 * (7 - count), stage, lengths);
             put_two(s, COUNT_AT, count + 1);
             0
         }
-        Answer::Refused(error) => fail(s, error),
+        Err(error) => fail(s, error),
     }
 }
 
@@ -166,7 +165,7 @@ pub fn hop5(
         port_of(port),
         user,
         password,
-        none_found(),
+        None,
     );
     keep(s, hop.count, begun)
 }
@@ -188,7 +187,7 @@ pub fn hop4(s: &mut [u8], host: &[u8], port: u32) -> u8
         host,
         read_host(host),
         port_of(port),
-        none_found(),
+        None,
     );
     keep(s, hop.count, begun)
 }
@@ -218,22 +217,11 @@ fn open_first(s: &mut [u8], count: usize, out: &mut [u8]) -> RawStep
 {
     let hops = hops_at(s, count - 1);
     let from = BYTES_AT + REQUESTS * (8 - count);
-    let spot = crate::relay::begin(
-        hops,
-        Spot {
-            behind: count,
-            stage: Stage::Open,
-            held: 0,
-            bound: Bound {
-                kind: AddressKind::Ipv4,
-                port: 0,
-            },
-            attempts: 0,
-            sent: 0,
-        },
-        &s[from..],
-        out,
-    );
+    let row = Row {
+        hops: &hops,
+        bytes: &s[from..],
+    };
+    let spot = row.begin(Spot::ahead_of(count), out);
     let hold = [0u8; HOLD];
     put_spoken(
         s,

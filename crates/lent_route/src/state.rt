@@ -3,7 +3,6 @@ ghost use Rattle.std.specs.Prelude.{◌≡◌, ◌+◌, ◌^◌, ◌≤◌, ◌<
 ghost use Rattle.buffers.specs.write.Written.{Wrote};
 ghost use Rattle.lent_numbers.specs.bytes.Numbers.{digits};
 ghost use Rattle.lent_session.specs.State.{stage_number, error_number, status_number, code_of, state_of};
-ghost use Rattle.route_delivery.specs.Relay.{no_hop};
 ghost use Rattle.lent_route.specs.State.{reply_at, hop_in, slot_hop, hops_in, spoken_at};
 
 use buffers::write::{copy, put_byte};
@@ -11,9 +10,9 @@ use client_stages::due::{Lengths, Stage};
 use error_numbers::{number, status};
 use lent_numbers::bytes::{put_eight, put_two, two_at};
 use lent_session::state::{kind_number, reply_number, reply_of};
-use protocol::{AddressKind, AuthMethod, PROXIES, Reply};
+use protocol::{AddressKind, PROXIES, Reply};
 use raw_numbers::{bit, truth};
-use route_delivery::{Hop, Spot};
+use route_delivery::{Hop, NO_HOP, Spot};
 
 pub const ROUTE: usize = 8538;
 
@@ -51,28 +50,13 @@ fn slot_at(s: &[u8], at: usize) -> Hop
     }
 }
 
-// Of a proxy that a route lacks.
-fn no_hop() -> Hop
-    ensures { result ≡ no_hop }
-{
-    Hop {
-        first: Reply::NegotiationRes(AuthMethod::NoAuth),
-        lengths: Lengths {
-            optimistic: false,
-            first: 0,
-            authentication: 0,
-            proxy: 0,
-        },
-    }
-}
-
 // What the proxy keeps that has so many behind it.
 fn hop_at(s: &[u8], last: usize, index: usize) -> Hop
     requires { (length s.now ≡ 8538) × ((last ≤ 7) × (index ≤ 7)) }
     ensures { result ≡ slot_hop s.now last index }
 {
     if last < index {
-        return no_hop();
+        return NO_HOP;
     }
     slot_at(s, SLOTS_AT + 8 * (7 - last + index))
 }
@@ -104,7 +88,7 @@ fn put_numbers(s: &mut [u8], attempts: u64, held: usize, lengths: Lengths, port:
     put_two(s, 10, lengths.first);
     put_two(s, 12, lengths.authentication);
     put_two(s, 14, lengths.proxy);
-    put_two(s, 16, port as usize)
+    put_two(s, 16, usize::from(port))
 }
 
 fn stage_number(stage: Stage) -> u8
@@ -113,7 +97,7 @@ fn stage_number(stage: Stage) -> u8
     match stage {
         Stage::Awaiting(reply) => reply_number(reply),
         Stage::Open => 7,
-        Stage::Failed(error) => 0,
+        Stage::Failed(_) => 0,
     }
 }
 
@@ -121,9 +105,8 @@ fn error_number(stage: Stage) -> u8
     ensures { result ≡ error_number stage }
 {
     match stage {
-        Stage::Awaiting(reply) => 0,
-        Stage::Open => 0,
         Stage::Failed(error) => number(error),
+        _ => 0,
     }
 }
 
@@ -131,9 +114,8 @@ fn status_number(stage: Stage) -> u8
     ensures { result ≡ status_number stage }
 {
     match stage {
-        Stage::Awaiting(reply) => 0,
-        Stage::Open => 0,
         Stage::Failed(error) => status(error),
+        _ => 0,
     }
 }
 
@@ -158,15 +140,12 @@ pub fn put_spoken(s: &mut [u8], spot: Spot, lengths: Lengths, hold: &[u8])
     requires { (length s.old ≡ 8538) × (length hold.now ≡ 261) }
     ensures { (s.new ≡ state_of (spoken_at spot lengths hold.now (drop 282 s.old))) × ((spot.attempts < 2 ^ 64) × (spot.bound.port < 65536)) }
 {
-    let stage = spot.stage;
-    let bound = spot.bound;
-    let kind = bound.kind;
-    put_numbers(s, spot.attempts, spot.held, lengths, bound.port);
+    put_numbers(s, spot.attempts, spot.held, lengths, spot.bound.port);
     put_code(
         s,
-        code_of(stage, lengths.optimistic, kind),
-        error_number(stage),
-        status_number(stage),
+        code_of(spot.stage, lengths.optimistic, spot.bound.kind),
+        error_number(spot.stage),
+        status_number(spot.stage),
     );
     copy(s, 21, hold);
 }

@@ -1,7 +1,6 @@
 -- What a call over lent bytes tells and leaves: the library's call on the session that they mean.
 use Rattle.std.specs.Prelude.{◌≡◌, ℕ, ◌+◌, min, List, ◌++◌, drop, replicate}
-use Rattle.protocol.specs.declared.Answer.{Answer}
-use Rattle.protocol.specs.declared.Answer.TheVariants.{Accepted, Refused}
+use Rattle.protocol.specs.Answers.{Answer, Accepted, Refused}
 use Rattle.protocol.specs.declared.Address.{Address}
 use Rattle.protocol.specs.Bound.{size_of}
 use Rattle.protocol.specs.Numbers.{answer_number}

@@ -19,7 +19,7 @@ use crate::state::{
     CODE_AT, ERROR_AT, HELD_AT, HOLD_AT, PORT_AT, REQUESTS_AT, STATUS_AT, awaited, bound_at,
     is_started, kind_number, lengths_at, reply_number, reply_of,
 };
-use buffers::write::{copy, wide};
+use buffers::write::copy;
 use client_delivery::delivery::receive;
 use client_delivery::piece::Taken;
 use client_stages::due::Stage;
@@ -35,8 +35,8 @@ pub fn waiting(used: usize, sent: usize) -> RawStep
     ensures { result ≡ record { used = used; sent = sent; answer = 0; outcome = outcome_of outcomes.Waiting } }
 {
     RawStep {
-        used: used,
-        sent: sent,
+        used,
+        sent,
         answer: 0,
         outcome: RawOutcome {
             state: 0,
@@ -89,7 +89,7 @@ fn fewest_proxy(s: &[u8]) -> usize
         if s[25] == 0 {
             return 3;
         }
-        return 7 + wide(s[25]);
+        return 7 + usize::from(s[25]);
     }
     if s[24] == 0x01 {
         return 10;
@@ -158,8 +158,7 @@ fn put_open(s: &mut [u8], taken: Taken) -> RawStep
     ensures s_after { (x : Session) (e : Reply) → x.stage ≡ Stage.Awaiting e → s.old ≡ state_of x → s.new ≡ state_of (at Stage.Open x.held taken.bound x) }
 {
     let bound = taken.bound;
-    let kind = bound.kind;
-    s[CODE_AT] = s[CODE_AT] % 32 / 8 * 8 + 7 + 32 * kind_number(kind);
+    s[CODE_AT] = s[CODE_AT] % 32 / 8 * 8 + 7 + 32 * kind_number(bound.kind);
     put_two(s, PORT_AT, bound.port as usize);
     RawStep {
         used: taken.used,
@@ -182,8 +181,8 @@ fn put_failed(s: &mut [u8], error: SocksError, used: usize, sent: usize) -> RawS
     s[ERROR_AT] = number(error);
     s[STATUS_AT] = status(error);
     RawStep {
-        used: used,
-        sent: sent,
+        used,
+        sent,
         answer: 0,
         outcome: RawOutcome {
             state: 2,
@@ -200,10 +199,9 @@ fn settle(s: &mut [u8], taken: Taken) -> RawStep
     ensures s_after { (x : Session) (e : Reply) → Fits x → x.stage ≡ Stage.Awaiting e → ((taken.stage ≢ Stage.Open) → taken.bound ≡ x.bound) → s.old ≡ state_of x → s.new ≡ state_of (settled taken x) }
     ensures port_bound { taken.bound.port < 65536 }
 {
-    let stage = taken.stage;
     put_eight(s, 0, wrapping_add_u64(eight_at(s, 0), taken.attempts));
     put_two(s, HELD_AT, taken.held);
-    match stage {
+    match taken.stage {
         Stage::Awaiting(reply) => {
             put_awaited(s, reply);
             waiting(taken.used, taken.sent)
@@ -220,7 +218,7 @@ fn decide(s: &mut [u8], n: u8, held: usize, piece: &[u8], out: &mut [u8]) -> Raw
 {
     let lengths = lengths_at(s);
     let bound = bound_at(s);
-    let received = receive(
+    let Ok(taken) = receive(
         Stage::Awaiting(reply_of(n)),
         true,
         held,
@@ -229,8 +227,9 @@ fn decide(s: &mut [u8], n: u8, held: usize, piece: &[u8], out: &mut [u8]) -> Raw
         piece,
         1024,
         bound,
-    );
-    let taken = received.taken;
+    ) else {
+        unreachable!()
+    };
     send(s, taken.from, taken.sent, out);
     settle(s, taken)
 }

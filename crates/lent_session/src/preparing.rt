@@ -43,12 +43,7 @@ pub fn config_of(raw: RawConfig) -> SocksConfig
 pub fn clear(s: &mut [u8])
     ensures { s.new ≡ replicate (length s.old) 0 }
 {
-    let n = s.len();
-    let mut i = 0;
-    while i < n {
-        s[i] = 0;
-        i += 1;
-    }
+    s.fill(0);
 }
 
 // The stage that preparing came to.
@@ -77,14 +72,12 @@ fn keep(s: &mut [u8], begun: Begun) -> u8
     ensures value { result ≡ answer_number begun.answer }
     ensures s_after { (bytes : List ℕ) → s.old ≡ replicate 282 0 ++ bytes → s.new ≡ state_of (prepared_with begun bytes).session }
 {
-    let stage = begun.stage;
-    let answer = begun.answer;
     let lengths = begun.lengths;
     put_two(s, FIRST_AT, lengths.first);
     put_two(s, AUTHENTICATION_AT, lengths.authentication);
     put_two(s, PROXY_AT, lengths.proxy);
-    put_stage(s, stage, lengths.optimistic);
-    answer_number(answer)
+    put_stage(s, begun.stage, lengths.optimistic);
+    answer_number(begun.answer)
 }
 
 // Prepares a session over SOCKS5. A port above 65535 is none. `records` is an array of records, of 17 bytes each.

@@ -1,7 +1,7 @@
 // What lent bytes say of a session: its code, and the numbers beside it.
 ghost use Rattle.std.specs.Prelude.{◌≡◌, length};
 ghost use Rattle.protocol.specs.declared.Reply.{Reply};
-ghost use Rattle.lent_session.specs.State.{session_at, kind_at, method_number, reply_number, stage_number, kind_number};
+ghost use Rattle.lent_session.specs.State.{session_at, kind_at, reply_number, stage_number, kind_number};
 ghost use Rattle.lent_session.specs.Fits.{awaited_number};
 
 use client_stages::due::Lengths;
@@ -34,31 +34,13 @@ pub const REQUESTS_AT: usize = 282;
 pub fn reply_of(n: u8) -> Reply
     ensures { (e : Reply) → n ≡ reply_number e → result ≡ e }
 {
-    if n == 1 {
-        return Reply::NegotiationRes(AuthMethod::NoAuth);
-    }
-    if n == 2 {
-        return Reply::NegotiationRes(AuthMethod::UserPass);
-    }
-    if n == 3 {
-        return Reply::NegotiationRes(AuthMethod::NoneAcceptable);
-    }
-    if n == 4 {
-        return Reply::AuthenticationRes;
-    }
-    if n == 5 {
-        return Reply::ProxyRes;
-    }
-    Reply::Response
-}
-
-fn method_number(method: AuthMethod) -> u8
-    ensures { result ≡ method_number method }
-{
-    match method {
-        AuthMethod::NoAuth => 1,
-        AuthMethod::UserPass => 2,
-        AuthMethod::NoneAcceptable => 3,
+    match n {
+        1 => Reply::NegotiationRes(AuthMethod::NoAuth),
+        2 => Reply::NegotiationRes(AuthMethod::UserPass),
+        3 => Reply::NegotiationRes(AuthMethod::NoneAcceptable),
+        4 => Reply::AuthenticationRes,
+        5 => Reply::ProxyRes,
+        _ => Reply::Response,
     }
 }
 
@@ -66,7 +48,9 @@ pub fn reply_number(reply: Reply) -> u8
     ensures { result ≡ reply_number reply }
 {
     match reply {
-        Reply::NegotiationRes(method) => method_number(method),
+        Reply::NegotiationRes(AuthMethod::NoAuth) => 1,
+        Reply::NegotiationRes(AuthMethod::UserPass) => 2,
+        Reply::NegotiationRes(AuthMethod::NoneAcceptable) => 3,
         Reply::AuthenticationRes => 4,
         Reply::ProxyRes => 5,
         Reply::Response => 6,
@@ -77,13 +61,11 @@ pub fn reply_number(reply: Reply) -> u8
 pub fn kind_at(code: u8) -> AddressKind
     ensures { result ≡ kind_at code }
 {
-    if code / 32 == 1 {
-        return AddressKind::Ipv6;
+    match code / 32 {
+        1 => AddressKind::Ipv6,
+        2 => AddressKind::Domain,
+        _ => AddressKind::Ipv4,
     }
-    if code / 32 == 2 {
-        return AddressKind::Domain;
-    }
-    AddressKind::Ipv4
 }
 
 pub fn kind_number(kind: AddressKind) -> u8
@@ -116,11 +98,10 @@ pub fn awaited(s: &[u8]) -> u8
     requires { length s.now ≡ 1306 }
     ensures { result ≡ awaited_number (session_at s.now).stage }
 {
-    let n = stage_at(s);
-    if n == 7 {
-        return 0;
+    match stage_at(s) {
+        7 => 0,
+        n => n,
     }
-    n
 }
 
 pub fn is_started(s: &[u8]) -> bool

@@ -12,9 +12,8 @@ use crate::state::{
     awaited, bound_at, is_started, reply_of, stage_at,
 };
 use address_format::endpoint::put_bound;
-use buffers::write::least;
 use client_stages::due::Stage;
-use error_numbers::{answer_number, number, status};
+use error_numbers::{number, status};
 use lent_numbers::bytes::{eight_at, two_at};
 use lent_numbers::told::RawOutcome;
 use protocol::{Address, AddressKind, HOLD, REQUESTS, SocksError};
@@ -29,6 +28,7 @@ pub struct RawAddress {
     pub bytes: [u8; 255],
 }
 
+// The C interface has its answer as a number.
 #[repr(C)]
 #[derive(Clone, Copy)]
 pub struct RawText {
@@ -41,26 +41,18 @@ pub fn told(s: &[u8]) -> RawOutcome
     requires { length s.now ≡ 1306 }
     ensures { result ≡ outcome_of (outcome (session_at s.now)) }
 {
-    let n = stage_at(s);
-    if n == 0 {
-        let error = error_of(s[ERROR_AT], s[STATUS_AT]);
-        return RawOutcome {
-            state: 2,
-            number: number(error),
-            status: status(error),
-        };
-    }
-    if n == 7 {
-        return RawOutcome {
-            state: 1,
-            number: 0,
-            status: 0,
-        };
-    }
+    let (state, number, status) = match stage_at(s) {
+        0 => {
+            let error = error_of(s[ERROR_AT], s[STATUS_AT]);
+            (2, number(error), status(error))
+        }
+        7 => (1, 0, 0),
+        _ => (0, 0, 0),
+    };
     RawOutcome {
-        state: 0,
-        number: 0,
-        status: 0,
+        state,
+        number,
+        status,
     }
 }
 
@@ -72,7 +64,7 @@ fn address_at(s: &[u8]) -> Address
     if stage_at(s) != 7 {
         return client_delivery::bound_address::unbound();
     }
-    let n = least(two_at(s, HELD_AT), HOLD);
+    let n = two_at(s, HELD_AT).min(HOLD);
     let end = HOLD_AT + n;
     client_delivery::bound_address::address(bound_at(s), &s[HOLD_AT..end])
 }
@@ -94,13 +86,12 @@ pub fn bound(s: &[u8]) -> RawAddress
     ensures { result ≡ bound_at s.now }
 {
     let address = address_at(s);
-    let kind = address.kind;
     let bytes = address.bytes;
     RawAddress {
         port: address.port,
-        kind: raw_numbers::kind_number(kind),
-        len: size_of(kind, address.len),
-        bytes: bytes,
+        kind: raw_numbers::kind_number(address.kind),
+        len: size_of(address.kind, address.len),
+        bytes,
     }
 }
 
@@ -116,11 +107,12 @@ pub fn bound_text(s: &[u8], text: &mut [u8]) -> RawText
             answer: number(SocksError::NotOpen),
         };
     }
-    let written = put_bound(address_at(s), text);
-    let answer = written.answer;
-    RawText {
-        len: written.len,
-        answer: answer_number(answer),
+    match put_bound(address_at(s), text) {
+        Ok(len) => RawText { len, answer: 0 },
+        Err(error) => RawText {
+            len: 0,
+            answer: number(error),
+        },
     }
 }
 
@@ -138,7 +130,7 @@ pub fn wipe(s: &mut [u8])
     ensures { s.new ≡ wiped s.old }
 {
     let n = two_at(s, FIRST_AT) + two_at(s, AUTHENTICATION_AT) + two_at(s, PROXY_AT);
-    let end = REQUESTS_AT + least(n, REQUESTS);
+    let end = REQUESTS_AT + n.min(REQUESTS);
     clear(&mut s[..end]);
 }
 

@@ -8,9 +8,7 @@ use lib.ListN.{length, drop}
 use Rattle.protocol.specs.Opening.{Condition, ◌↣◌, None, Answers}
 use Rattle.protocol.proofs.Limits.{number_is}
 use Rattle.endings_spec.specs.Endings.{Wanted, Nowhere}
-use Rattle.endings.specs.declared.Produced.{Produced}
-use Rattle.endings.specs.declared.Produced.TheVariants.{Refused, NoStream, Stream}
-use Rattle.endings.specs.Calls.{Call}
+use Rattle.endings.specs.Calls.{Produced, Refused, NoStream, Stream, Call}
 use Rattle.endings.specs.Produces.{produced_number, Produces}
 use Rattle.lent_stream.specs.declared.RawStream.{RawStream}
 use Rattle.lent_stream.specs.Stream.{raw_stream, Streams}

@@ -2,9 +2,7 @@
 use Rattle.std.specs.Prelude.{ℕ, ◌≡◌, List}
 use Rattle.protocol.specs.Numbers.{number}
 use Rattle.endings_spec.specs.declared.OutcomeStatus.{OutcomeStatus}
-use Rattle.endings.specs.declared.Produced.{Produced}
-use Rattle.endings.specs.declared.Produced.TheVariants.{Refused, NoStream, Stream}
-use Rattle.endings.specs.Calls.{Call, stream5, stream4}
+use Rattle.endings.specs.Calls.{Produced, Refused, NoStream, Stream, Call, stream5, stream4}
 use Rattle.lent_session.specs.declared.preparing.RawConfig.{RawConfig}
 use Rattle.lent_session.specs.Given.{given5, given4}
 use Rattle.lent_stream.specs.declared.RawStream.{RawStream}

@@ -13,6 +13,7 @@ use raw_numbers::{port_of, truth};
 use raw_records::found;
 
 // A stream's length, or the refusal's number, or that no stream leads there.
+// The C interface has its answer as a number.
 #[repr(C)]
 #[derive(Clone, Copy)]
 pub struct RawStream {
@@ -25,17 +26,17 @@ fn told(produced: Produced) -> RawStream
     ensures { result ≡ raw_stream produced }
 {
     match produced {
-        Produced::Refused(error) => RawStream {
+        Err(error) => RawStream {
             len: 0,
             answer: number(error),
             none: 0,
         },
-        Produced::NoStream => RawStream {
+        Ok(None) => RawStream {
             len: 0,
             answer: 0,
             none: 1,
         },
-        Produced::Stream(len) => RawStream {
+        Ok(Some(len)) => RawStream {
             len,
             answer: 0,
             none: 0,
@@ -57,7 +58,6 @@ pub fn stream5(
 ) -> RawStream
     ensures { Streams (asked5 config host.now port user.now password.now records.now number status buffer.old) result buffer.new }
 {
-    let chosen = found(records, false);
     let wanted = OutcomeStatus { number, status };
     told(endings::v5::stream_chosen(
         config_of(config),
@@ -65,7 +65,7 @@ pub fn stream5(
         port_of(port),
         user,
         password,
-        chosen,
+        found(records, false),
         wanted,
         buffer,
     ))
@@ -83,13 +83,12 @@ pub fn stream4(
 ) -> RawStream
     ensures { Streams (asked4 local_dns host.now port records.now number status buffer.old) result buffer.new }
 {
-    let chosen = found(records, true);
     let wanted = OutcomeStatus { number, status };
     told(endings::v4::stream_chosen(
         truth(local_dns),
         host,
         port_of(port),
-        chosen,
+        found(records, true),
         wanted,
         buffer,
     ))

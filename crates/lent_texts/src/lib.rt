@@ -57,19 +57,16 @@ pub fn error_text(number: u8, buffer: &mut [u8]) -> usize
 fn status_at(version: u8, status: u8) -> u8
     ensures { Picks result (status_text version status) }
 {
-    if version == 5 {
-        if status < 9 {
-            return 28 + status;
-        }
-        return 37;
+    match version {
+        5 => match status {
+            0..=8 => 28 + status,
+            _ => 37,
+        },
+        _ => match status {
+            90..=93 => status - 52,
+            _ => 37,
+        },
     }
-    if status < 90 {
-        return 37;
-    }
-    if status < 94 {
-        return status - 52;
-    }
-    37
 }
 
 // The text of a status; any version but 5 is 4.

@@ -7,8 +7,7 @@ use mathlib.Core.List.{List, [], ◌∷◌, ◌++◌}
 use lib.ListN.{length, drop, replicate, length-append, length-replicate, replicate-append-replicate}
 use lib.Seq.{drop-append-add, drop_at}
 use lib.Dec.{lit<}
-use Rattle.protocol.specs.declared.Answer.{Answer}
-use Rattle.protocol.specs.declared.Answer.TheVariants.{Accepted, Refused}
+use Rattle.protocol.specs.Answers.{Answer, Accepted, Refused}
 use Rattle.protocol.specs.declared.AuthMethod.TheVariants.{NoAuth, UserPass}
 use Rattle.protocol.specs.declared.Reply.{Reply}
 use Rattle.protocol.specs.declared.Reply.TheVariants.{NegotiationRes, Response}

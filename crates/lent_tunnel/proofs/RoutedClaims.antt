@@ -8,7 +8,7 @@ use mathlib.Core.List.{List, ◌++◌, map}
 use lib.ListN.{length, take, drop}
 use lib.Seq.{drop-append_seam}
 use lib.Dec.{lit<}
-use Rattle.protocol.specs.declared.Answer.TheVariants.{Accepted, Refused}
+use Rattle.protocol.specs.Answers.{Accepted, Refused}
 use Rattle.protocol.specs.declared.SocksError.{SocksError}
 use Rattle.protocol.specs.declared.SocksError.TheVariants.{RouteLength}
 use Rattle.protocol.specs.Bytes.{BytePieces}

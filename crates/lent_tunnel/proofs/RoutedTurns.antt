@@ -8,8 +8,7 @@ use mathlib.Core.List.{List, [], ◌∷◌}
 use lib.ListN.{length, take, drop, replicate, length-take, length-drop, length-replicate}
 use lib.Dec.{eqb, leb, ltb, lit<}
 use borrow.Author.Tests.{le-leb, leb-true, eqb-true, eq-eqb, ltb-false}
-use Rattle.protocol.specs.declared.Answer as code
-use Rattle.protocol.specs.declared.Answer.TheVariants.{Accepted, Refused}
+use Rattle.protocol.specs.Answers as code
 use Rattle.protocol.specs.declared.Address.{Address}
 use Rattle.protocol.specs.declared.Bound.{Bound}
 use Rattle.protocol.specs.declared.Outcome.{Outcome}
@@ -101,8 +100,8 @@ module _ (b : Bound) (h : List ℕ) where
   open_as Open t s out = refl
   open_as (Failed e) t s out = refl
 
-  called_as : (x : Stage) (t : Bool) (s out : List ℕ) (c : Call) → c.answer ≡ refuse (settled x) Settled Accepted
-      → (called_in (phase_by x t) s out c).answer ≡ answer_number (refuse (settled x) Settled (refuse (not t) OutOfOrder Accepted))
+  called_as : (x : Stage) (t : Bool) (s out : List ℕ) (c : Call) → c.answer ≡ refuse (settled x) Settled code.Accepted
+      → (called_in (phase_by x t) s out c).answer ≡ answer_number (refuse (settled x) Settled (refuse (not t) OutOfOrder code.Accepted))
   called_as (Awaiting e) true s out c q = ap answer_number q
   called_as (Awaiting e) false s out c q = refl
   called_as Open t s out c q = ap answer_number q
@@ -114,39 +113,39 @@ for_just : (a : Asked) → Answers (answer_number (check_for a)) (conditions_for
 for_just (over5 a) = check5_just a
 for_just (over4 a) = check4_just a
 
-sized : (n : ℕ) → Answers (answer_number (refuse (eqb n 0 || ltb 8 n) RouteLength Accepted)) (((n ≡ 0) ↣ 21) ∷ ((8 < n) ↣ 21) ∷ [])
+sized : (n : ℕ) → Answers (answer_number (refuse (eqb n 0 || ltb 8 n) RouteLength code.Accepted)) (((n ≡ 0) ↣ 21) ∷ ((8 < n) ↣ 21) ∷ [])
 sized n =
     subst (λ (x : code.Answer). Answers (answer_number x) (((n ≡ 0) ↣ 21) ∷ ((8 < n) ↣ 21) ∷ [])) (both (eqb n 0) (ltb 8 n))
-    (checked (eqb n 0) _ RouteLength 21 _ _ refl (lit< tt) (eqb-true n 0, eq-eqb n 0) (checked (ltb 8 n) _ RouteLength 21 Accepted [] refl (lit< tt) (less_just 8 n) all_passed))
+    (checked (eqb n 0) _ RouteLength 21 _ _ refl (lit< tt) (eqb-true n 0, eq-eqb n 0) (checked (ltb 8 n) _ RouteLength 21 code.Accepted [] refl (lit< tt) (less_just 8 n) all_passed))
   where
-    both : (a b : Bool) → refuse a RouteLength (refuse b RouteLength Accepted) ≡ refuse (a || b) RouteLength Accepted
+    both : (a b : Bool) → refuse a RouteLength (refuse b RouteLength code.Accepted) ≡ refuse (a || b) RouteLength code.Accepted
     both true b = refl
     both false b = refl
 
 -- ---- a delivery and an end by the route value's call
 
-deliver_answers : (r : Route) (piece out : List ℕ) → length out ≡ 8192 → (deliver r piece out).answer ≡ refuse (is_over r) Settled Accepted
+deliver_answers : (r : Route) (piece out : List ℕ) → length out ≡ 8192 → (deliver r piece out).answer ≡ refuse (is_over r) Settled code.Accepted
 unfolding deliver
 deliver_answers r piece out l = rw (le-leb (room_in r) (length out) (omega (arith, l))) (go (is_over r))
   where
-    go : (b : Bool) → (cond b (refusal Settled r out) (takes r piece out)).answer ≡ refuse b Settled Accepted
+    go : (b : Bool) → (cond b (refusal Settled r out) (takes r piece out)).answer ≡ refuse b Settled code.Accepted
     go true = refl
     go false = refl
 
-end_answers : (r : Route) → (end r).answer ≡ refuse (is_over r) Settled Accepted
+end_answers : (r : Route) → (end r).answer ≡ refuse (is_over r) Settled code.Accepted
 unfolding end
 end_answers r = sessions.end_answers (session_in r)
 
-returned_untouched : (s out : List ℕ) (c : Call) → ((e : SocksError) → c.answer ≡ Refused e → c ≡ refusal e (route_at s) out) → Untouched (returned s c) s out
+returned_untouched : (s out : List ℕ) (c : Call) → ((e : SocksError) → c.answer ≡ code.Refused e → c ≡ refusal e (route_at s) out) → Untouched (returned s c) s out
 returned_untouched s out c h n = go c.answer refl
   where
     go : (x : code.Answer) → c.answer ≡ x → returned s c ≡ record { answer = answer_number c.answer; session = s; used = 0; sent = 0; output = out }
-    go Accepted q = absurd (n (ap answer_number q))
-    go (Refused e) q =
+    go code.Accepted q = absurd (n (ap answer_number q))
+    go (code.Refused e) q =
         let z = h e q in
         λ i. record { answer = answer_number c.answer; session = left_by (q i) c.session s; used = (z i).used; sent = (z i).sent; output = (z i).output }
 
-called_untouched : (p : Phase) (s out : List ℕ) (c : Call) → ((e : SocksError) → c.answer ≡ Refused e → c ≡ refusal e (route_at s) out) → Untouched (called_in p s out c) s out
+called_untouched : (p : Phase) (s out : List ℕ) (c : Call) → ((e : SocksError) → c.answer ≡ code.Refused e → c ≡ refusal e (route_at s) out) → Untouched (called_in p s out c) s out
 called_untouched preparing s out c h n = refl
 called_untouched opened s out c h n = returned_untouched s out c h n
 called_untouched over s out c h n = returned_untouched s out c h n
@@ -162,10 +161,10 @@ called_counts opened s out c h = h
 called_counts over s out c h = h
 
 -- accepted, it was in turn, and the route's call is
-returned_accepts : (s : List ℕ) (c : Call) → (returned s c).answer ≡ 0 → (c.answer ≡ Accepted) × ((returned s c).session ≡ left_by Accepted c.session s)
+returned_accepts : (s : List ℕ) (c : Call) → (returned s c).answer ≡ 0 → (c.answer ≡ code.Accepted) × ((returned s c).session ≡ left_by code.Accepted c.session s)
 returned_accepts s c q = let a = number_accepted c.answer q in (a, ap (λ (x : code.Answer). left_by x c.session s) a)
 
-called_accepts : (p : Phase) (s out : List ℕ) (c : Call) → (called_in p s out c).answer ≡ 0 → (c.answer ≡ Accepted) × ((called_in p s out c).session ≡ left_by Accepted c.session s)
+called_accepts : (p : Phase) (s out : List ℕ) (c : Call) → (called_in p s out c).answer ≡ 0 → (c.answer ≡ code.Accepted) × ((called_in p s out c).session ≡ left_by code.Accepted c.session s)
 called_accepts preparing s out c q = absurd (omega arith)
 called_accepts opened s out c q = returned_accepts s c q
 called_accepts over s out c q = returned_accepts s c q
@@ -202,10 +201,10 @@ module _ (s out : List ℕ) where
   unfolding open_call
   open_is = refl
 
-  pub open_answers : (open_call s out).answer ≡ refuse none RouteLength Accepted
+  pub open_answers : (open_call s out).answer ≡ refuse none RouteLength code.Accepted
   open_answers = ap (λ (c : Call). c.answer) open_is ∙ go none
     where
-      go : (b : Bool) → (opening b).answer ≡ refuse b RouteLength Accepted
+      go : (b : Bool) → (opening b).answer ≡ refuse b RouteLength code.Accepted
       go true = refl
       go false = refl
 
@@ -213,10 +212,10 @@ module _ (s out : List ℕ) where
   or_false true b q = absurd (true≢false q)
   or_false false b q = q
 
-  open_accepts : (open_call s out).answer ≡ Accepted → (n ≤ 8) × (open_call s out ≡ route.begins begun first out)
+  open_accepts : (open_call s out).answer ≡ code.Accepted → (n ≤ 8) × (open_call s out ≡ route.begins begun first out)
   open_accepts q = go none refl (ap (λ (c : Call). c.answer) (sym open_is) ∙ q)
     where
-      go : (b : Bool) → none ≡ b → (opening none).answer ≡ Accepted → (n ≤ 8) × (open_call s out ≡ route.begins begun first out)
+      go : (b : Bool) → none ≡ b → (opening none).answer ≡ code.Accepted → (n ≤ 8) × (open_call s out ≡ route.begins begun first out)
       go true e q = absurd (clash (sym (ap (λ (b : Bool). (opening b).answer) (sym e) ∙ q)))
       go false e q = (ltb-false 8 n (or_false (eqb n 0) (ltb 8 n) e), open_is ∙ ap opening e)
 
@@ -300,7 +299,7 @@ module _ (s : List ℕ) (y : Bytes s) (l : length s ≡ 8538) where
   abbrev r : Route
   r = route_at s
 
-  end_fits : (end r).answer ≡ Accepted → Fits (keeping (onward (session_at s) (end r).session) (replicate 1024 0))
+  end_fits : (end r).answer ≡ code.Accepted → Fits (keeping (onward (session_at s) (end r).session) (replicate 1024 0))
   unfolding end
   end_fits q =
       let f = any_fits in
@@ -347,11 +346,11 @@ route_turns s y l out m =
     let t = (any_in_turn r).3 in
     let late : Late s → phase_at s ≡ preparing → ⊥ = late_phase b h x.stage x.started in
     let early : (Late s → ⊥) → phase_at s ≡ preparing = early_phase b h x.stage x.started in
-    let empties : (a : Asked) (e : SocksError) → (Late s → ⊥) → hop_told a s ≡ Refused e → hopped a s ≡ state_of (empty_route e) = λ a e n q i. hop_left (early n i) (q i) s (opening_for a) in
-    let adds : (a : Asked) (q : hop_told a s ≡ Accepted) → hopped a s ≡ with_hop s (opening_for a) = λ a q i. hop_left ((hop_accepts (phase_at s) (count_at s) a q).0 i) (q i) s (opening_for a) in
-    let few : (a : Asked) → hop_told a s ≡ Accepted → count_at s < 8 = λ a q. (hop_accepts (phase_at s) (count_at s) a q).1 in
+    let empties : (a : Asked) (e : SocksError) → (Late s → ⊥) → hop_told a s ≡ code.Refused e → hopped a s ≡ state_of (empty_route e) = λ a e n q i. hop_left (early n i) (q i) s (opening_for a) in
+    let adds : (a : Asked) (q : hop_told a s ≡ code.Accepted) → hopped a s ≡ with_hop s (opening_for a) = λ a q i. hop_left ((hop_accepts (phase_at s) (count_at s) a q).0 i) (q i) s (opening_for a) in
+    let few : (a : Asked) → hop_told a s ≡ code.Accepted → count_at s < 8 = λ a q. (hop_accepts (phase_at s) (count_at s) a q).1 in
     let long : 8538 ≤ length s = omega (arith, l) in
-    let waits : (a : Asked) → hop_told a s ≡ Accepted → Prepared x.stage x.started = λ a q. prepared_is x.stage x.started (hop_accepts (phase_at s) (count_at s) a q).0 in
+    let waits : (a : Asked) → hop_told a s ≡ code.Accepted → Prepared x.stage x.started = λ a q. prepared_is x.stage x.started (hop_accepts (phase_at s) (count_at s) a q).0 in
     record {
       hop_number = λ a.
           rw (hop_as b h x.stage x.started (count_at s) a)
@@ -388,10 +387,10 @@ route_turns s y l out m =
           };
       deliver_number = λ piece.
           rw (called_as b h x.stage x.started s out (deliver r piece out) (deliver_answers r piece out m))
-          (checked _ _ Settled 16 _ _ refl (lit< tt) settles (checked (not x.started) _ OutOfOrder 22 Accepted [] refl (lit< tt) (truth_just x.started) all_passed));
+          (checked _ _ Settled 16 _ _ refl (lit< tt) settles (checked (not x.started) _ OutOfOrder 22 code.Accepted [] refl (lit< tt) (truth_just x.started) all_passed));
       end_number =
           rw (called_as b h x.stage x.started s [] (end r) (end_answers r))
-          (checked _ _ Settled 16 _ _ refl (lit< tt) settles (checked (not x.started) _ OutOfOrder 22 Accepted [] refl (lit< tt) (truth_just x.started) all_passed));
+          (checked _ _ Settled 16 _ _ refl (lit< tt) settles (checked (not x.started) _ OutOfOrder 22 code.Accepted [] refl (lit< tt) (truth_just x.started) all_passed));
       deliver_untouched = λ piece. called_untouched (phase_at s) s out (deliver r piece out) (t.deliver_untouched piece out);
       end_untouched = called_untouched (phase_at s) s [] (end r) t.end_untouched;
       end_used = (called_counts (phase_at s) s [] (end r) (end_counts r)).0;

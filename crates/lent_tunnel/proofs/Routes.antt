@@ -8,10 +8,7 @@ use mathlib.Core.List.{List, [], ◌∷◌, map}
 use lib.ListN.{length, take, drop}
 use lib.Dec.{leb, ltb}
 use borrow.Author.Tests.{le-leb, ltb-false, le-ltb, ne_eqb}
-use Rattle.protocol.specs.declared.Port.{Port}
-use Rattle.protocol.specs.declared.Port.TheVariants.{Missing}
-use Rattle.protocol.specs.declared.Answer.{Answer}
-use Rattle.protocol.specs.declared.Answer.TheVariants.{Accepted, Refused}
+use Rattle.protocol.specs.Answers.{Port, Missing, Answer, Accepted, Refused}
 use Rattle.protocol.specs.declared.SocksError.TheVariants.{RouteLength}
 use Rattle.protocol.specs.declared.Version.TheVariants as Version
 use Rattle.protocol.specs.Bytes.{Bytes, BytePieces}

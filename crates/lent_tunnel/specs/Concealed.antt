@@ -1,7 +1,7 @@
 -- F-6 over sessions in lent bytes: two that were prepared alike but for the bytes of user and password, of equal lengths, and given the same calls in the same order.
 use Rattle.std.specs.Prelude.{ℕ, ◌+◌, ◌≡◌, length, take}
 use mathlib.Core.List.{List, [], ◌∷◌, Memᴰ}
-use Rattle.protocol.specs.declared.Answer.TheVariants.{Accepted}
+use Rattle.protocol.specs.Answers.{Accepted}
 use Rattle.protocol.specs.Bytes.{Bytes}
 use Rattle.protocol.specs.Numbers.{answer_number}
 use Rattle.protocol.specs.Opening.{V5}

@@ -1,6 +1,6 @@
 -- Of any lent bytes as many as a route has: the numbers that the calls on them answer, lent 8,192 bytes, so that 1 is not met; and what they leave.
 use Rattle.std.specs.Prelude.{ℕ, suc, ◌≤◌, ◌<◌, ◌≡◌, ◌⊎◌, true, false, List, [], ◌∷◌, length, drop, replicate}
-use Rattle.protocol.specs.declared.Answer.TheVariants.{Accepted, Refused}
+use Rattle.protocol.specs.Answers.{Accepted, Refused}
 use Rattle.protocol.specs.declared.SocksError.{SocksError}
 use Rattle.protocol.specs.declared.SocksError.TheVariants.{RouteLength}
 use Rattle.protocol.specs.Bytes.{Bytes}

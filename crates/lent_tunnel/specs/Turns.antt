@@ -1,6 +1,6 @@
 -- Of any lent bytes: the numbers that the calls on them answer, lent 1,024 bytes, so that 1 is not met; and what they leave.
 use Rattle.std.specs.Prelude.{ℕ, ◌<◌, ◌≡◌, Bool, true, false, List, [], ◌∷◌, length, drop, replicate}
-use Rattle.protocol.specs.declared.Answer.TheVariants.{Accepted, Refused}
+use Rattle.protocol.specs.Answers.{Accepted, Refused}
 use Rattle.protocol.specs.declared.SocksError.{SocksError}
 use Rattle.protocol.specs.Numbers.{number, status, answer_number}
 use Rattle.protocol.specs.Bytes.{Bytes}

@@ -1,7 +1,7 @@
 -- F-13: a name of 1 to 200 bytes 61 is a name, and its openings are accepted.
 use Rattle.std.proofs.Common.{◌≡◌, ℕ, zero, suc, ◌≤◌, Bool, true, false, cond, eqb, ltb, List, ◌∷◌, length, replicate, refl, arith, le-ltb, lt-ltb, ne_eqb}
 use lib.ListN.{length-replicate}
-use Rattle.protocol.specs.declared.Answer.TheVariants.{Accepted}
+use Rattle.protocol.specs.Answers.{Accepted}
 use Rattle.protocol.specs.Host.{strip, all_allowed}
 use Rattle.protocol.specs.AddressReading.{domain, destination_of, hex_value, digits_from, decimal_goes, hex_goes, number_of, group_of, mark_at, dotted, ipv4_of, follows_at, row, right_of, join_of, whole_of, starts_gap, ipv6_of}
 use Rattle.protocol.specs.Opening.{check5, check4}

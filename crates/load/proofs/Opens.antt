@@ -2,7 +2,7 @@
 use Rattle.std.proofs.Common.{◌≡◌, ℕ, ◌+◌, ◌%◌, ◌≤◌, Bool, true, false, ◌⊎◌, List, [], ◌++◌, length, take, sym, refl, ap, ◌∙◌, subst, inl, inr, append-nil, arith, length-append, length-take, le-leb}
 use mathlib.Core.List.Memᴰ
 use mathlib.Core.List.{Memᴰ}
-use Rattle.protocol.specs.declared.Answer.TheVariants.{Accepted}
+use Rattle.protocol.specs.Answers.{Accepted}
 use Rattle.protocol.specs.declared.Outcome.{Outcome}
 use Rattle.protocol.specs.declared.Outcome.TheVariants.{Waiting, Open, Failed}
 use Rattle.protocol.specs.Bytes.{Bytes, BytePieces}

@@ -1,6 +1,6 @@
 -- F-13: handshakes run by the session's calls, piece by piece and one after the other.
 use Rattle.std.proofs.Common.{◌≡◌, ℕ, zero, suc, ◌+◌, ◌-◌, ◌<◌, ◌≤◌, min, Bool, true, false, cond, leb, List, [], ◌∷◌, length, take, drop, replicate, sym, refl, ap, ◌∙◌, subst, arith, length-drop, drop-drop, ne_eqb, leb-false, leb-true}
-use mathlib.Core.Option.{some}
+use Rattle.std.specs.Prelude.{Some}
 use Rattle.client_session.specs.declared.Session.{Session}
 use Rattle.client_session.specs.declared.Started.{Started}
 use Rattle.client_session.specs.declared.Delivered.{Delivered}
@@ -78,26 +78,19 @@ unfolding fed_with
 ran_more session p ps out t d out₁ x e q r =
     (λ i. fed_with (sym e i).session ps (sym q i) (with_sent t (take (sym e i).sent (sym q i)))) ∙ r
 
-add_sub : (a b : ℕ) → a + b - a ≡ b
-add_sub a b = omega arith
-
-module _ (single : Bool) (replies : List ℕ) where
-  pub fed_more : (session : Session) (out : List ℕ) (t : Tally) (at : ℕ) (p : Piece) (d : Delivered) (out₁ : List ℕ) (t₁ r : Tally) (out' : List ℕ)
-      → at < length replies → p ≡ piece_of t.state (length replies - at) single
-      → DeliverResult (deliver session (take (at + p.len - at) (drop at replies)) out) (take (at + p.len - at) (drop at replies)) d out₁
-      → t₁ ≡ added t (take d.sent out₁) p.state → Fed single t₁.state d.session (drop (at + p.len) replies) out₁ (counts_of t₁) r out'
-      → Fed single t.state session (drop at replies) out (counts_of t) r out'
-  fed_more session out t at p d out₁ t₁ r out' less e w u f =
-      let bs = drop at replies in
-      let l : length bs ≡ length replies - at = length-drop at replies in
+module _ (single : Bool) where
+  pub fed_more : (session : Session) (out : List ℕ) (t : Tally) (bs : List ℕ) (p : Piece) (d : Delivered) (out₁ : List ℕ) (t₁ r : Tally) (out' : List ℕ) {now later : List ℕ}
+      → now ≡ take p.len bs → later ≡ drop p.len bs → 0 < length bs → p ≡ piece_of t.state (length bs) single → DeliverResult (deliver session now out) now d out₁
+      → t₁ ≡ added t (take d.sent out₁) p.state → Fed single t₁.state d.session later out₁ (counts_of t₁) r out'
+      → Fed single t.state session bs out (counts_of t) r out'
+  fed_more session out t bs p d out₁ t₁ r out' n l some e w u f =
       let g : Fed single p.state d.session (drop p.len bs) out₁ (with_sent (counts_of t) (take d.sent out₁)) r out' =
-      rw (drop-drop p.len at replies) (subst (λ (v : Tally). Fed single v.state d.session (drop (at + p.len) replies) out₁ (counts_of v) r out') u f) in
-      let k = add_sub at p.len in
-      let w' : DeliverResult (deliver session (take p.len bs) out) (take p.len bs) d out₁ =
-      subst (λ (n : ℕ). DeliverResult (deliver session (take n bs) out) (take n bs) d out₁) k w in
+      subst (λ (v : Tally). Fed single v.state d.session (drop p.len bs) out₁ (counts_of v) r out') u
+      (subst (λ (x : List ℕ). Fed single t₁.state d.session x out₁ (counts_of t₁) r out') l f) in
+      let w' : DeliverResult (deliver session (take p.len bs) out) (take p.len bs) d out₁ = subst (λ (x : List ℕ). DeliverResult (deliver session x out) x d out₁) n w in
       record {
         pieces = take p.len bs ∷ g.pieces;
-        cut = pieces_more single t.state bs p g.pieces r.state (omega arith) (rw l e) g.cut;
+        cut = pieces_more single t.state bs p g.pieces r.state some e g.cut;
         ran = ran_more session (take p.len bs) g.pieces out (counts_of t) d out₁ _ w'.returned w'.output g.ran;
       }
 
@@ -106,21 +99,15 @@ module _ (single : Bool) (replies : List ℕ) where
   no_pieces true s = (refl, refl)
   no_pieces false s = none
 
-  drop_past : (s : List ℕ) (n : ℕ) → length s ≤ n → drop n s ≡ []
-  drop_past [] zero h = refl
-  drop_past [] (suc n) h = refl
-  drop_past (b ∷ s) zero h = absurd (omega arith)
-  drop_past (b ∷ s) (suc n) h = drop_past s n (omega arith)
-
-  pub fed_end : (session : Session) (out : List ℕ) (t r : Tally) (at : ℕ) → length replies ≤ at → r ≡ settled t (outcome session)
-      → Fed single t.state session (drop at replies) out (counts_of t) r out
+  pub fed_end : (session : Session) (out : List ℕ) (t r : Tally) (bs : List ℕ) → length bs ≡ 0 → r ≡ settled t (outcome session)
+      → Fed single t.state session bs out (counts_of t) r out
   unfolding fed_with
-  fed_end session out t r at h e =
-      rw (drop_past replies at h, e) (record { pieces = []; cut = no_pieces single t.state; ran = refl })
+  fed_end session out t r [] q e = rw e (record { pieces = []; cut = no_pieces single t.state; ran = refl })
+  fed_end session out t r (b ∷ bs) q e = absurd (omega arith)
 
-  pub fed_from : (session : Session) (out : List ℕ) (from t r : Tally) (sent out' : List ℕ) → t ≡ added from sent from.state
+  pub fed_from : (session : Session) (replies out : List ℕ) (from t r : Tally) (sent out' : List ℕ) → t ≡ added from sent from.state
       → Fed single t.state session replies out (counts_of t) r out' → Fed single from.state session replies out (with_sent (counts_of from) sent) r out'
-  fed_from session out from t r sent out' e f = subst (λ (v : Tally). Fed single v.state session replies out (counts_of v) r out') e f
+  fed_from session replies out from t r sent out' e f = subst (λ (v : Tally). Fed single v.state session replies out (counts_of v) r out') e f
 
 -- ---- a handshake
 
@@ -142,7 +129,7 @@ module _ (single : Bool) (t : Tally) (c : Choice) (chosen : c ≡ choice_of t.st
   abbrev of : List ℕ → List (List ℕ) → Handshake
   of replies pieces = record { v5 = c.v5; credentials = c.credentials; name = c.name; replies = replies; pieces = pieces }
 
-  is_chosen : (replies : List ℕ) (pieces : List (List ℕ)) → stream_of (kind_by c.v5 c.credentials) opens ≡ some replies → Chosen t.state (of replies pieces)
+  is_chosen : (replies : List ℕ) (pieces : List (List ℕ)) → stream_of (kind_by c.v5 c.credentials) opens ≡ Some replies → Chosen t.state (of replies pieces)
   is_chosen replies pieces e =
       record {
         version = ap (λ (x : Choice). x.v5) chosen;
@@ -162,13 +149,10 @@ module _ (single : Bool) (t : Tally) (c : Choice) (chosen : c ≡ choice_of t.st
   ran_started replies ps out d out₁ x w r =
       (λ i. fed_with (sym w.returned i).session ps (sym w.output i) (with_sent (counts_of t) (take (sym w.returned i).sent (sym w.output i)))) ∙ r
 
-  pub ran_one : (all kept : List ℕ) (from n : ℕ) (out : List ℕ) (d : Started) (out₁ : List ℕ) (r : Tally) (out₂ : List ℕ) → kept ≡ all
-      → StartResult (start (prepared_by c.v5 c.credentials c.name).session out) d out₁
-      → stream_of (kind_by c.v5 c.credentials) opens ≡ some (take n (drop from all))
-      → Fed single c.state d.session (take n (drop from kept)) out₁ (with_sent (counts_of t) (take d.sent out₁)) r out₂ → RanOne single t out r out₂
-  ran_one all kept from n out d out₁ r out₂ same w e f =
-      let replies = take n (drop from kept) in
-      let q : stream_of (kind_by c.v5 c.credentials) opens ≡ some replies = e ∙ ap (λ (x : List ℕ). some (take n (drop from x))) (sym same) in
+  pub ran_one : (replies out : List ℕ) (d : Started) (out₁ : List ℕ) (r : Tally) (out₂ : List ℕ)
+      → StartResult (start (prepared_by c.v5 c.credentials c.name).session out) d out₁ → stream_of (kind_by c.v5 c.credentials) opens ≡ Some replies
+      → Fed single c.state d.session replies out₁ (with_sent (counts_of t) (take d.sent out₁)) r out₂ → RanOne single t out r out₂
+  ran_one replies out d out₁ r out₂ w q f =
       record {
         handshake = of replies f.pieces;
         drawn = is_drawn single (of replies f.pieces) r.state (is_chosen replies f.pieces q) f.cut;

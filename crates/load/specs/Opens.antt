@@ -1,6 +1,6 @@
 -- F-13: every handshake of the load opens, whatever the seed, and uses all of its replies.
 use Rattle.std.specs.Prelude.{◌≡◌, ℕ, ◌≤◌, Bool, List, [], ◌∷◌, length}
-use Rattle.protocol.specs.declared.Answer.TheVariants.{Accepted}
+use Rattle.protocol.specs.Answers.{Accepted}
 use Rattle.protocol.specs.declared.Outcome.TheVariants.{Open}
 use Rattle.client_session.specs.declared.Session.{Session}
 use Rattle.client_session.specs.Session.{outcome}

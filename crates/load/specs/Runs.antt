@@ -6,7 +6,6 @@ use Rattle.client_session.specs.Session.{outcome}
 use Rattle.client_session.specs.Calls.{Call, prepare5, prepare4, start, deliver}
 use Rattle.endings_spec.specs.declared.Kind.{Kind}
 use Rattle.endings_spec.specs.declared.Kind.TheVariants.{WithoutCredentials, WithCredentials, OverV4}
-use Rattle.endings_spec.specs.Streams.{open_stream}
 use Rattle.load_spec.specs.Load.{Handshake, arguments5, arguments4, Cut, bytewise, Drawn, DrawnBytewise, Load}
 use Rattle.load.specs.declared.Tally.{Tally}
 use Rattle.load.specs.Tally.{Counts, no_counts, with_sent, with_outcome, counts_of}
@@ -75,10 +74,7 @@ pub record RanLoad (single : Bool) (count seed : ℕ) (r : Tally) : Type 0 where
   pub load : Load (One single) seed count handshakes r.state
   pub ran : (ran_all handshakes (replicate 1024 0) no_counts).counts ≡ counts_of r
 
--- ---- the replies that the code keeps: those of all kinds, one behind the other
-
-abbrev pub all_replies : List ℕ
-all_replies = open_stream WithCredentials ++ (open_stream WithoutCredentials ++ open_stream OverV4)
+-- ---- the kind of an opening
 
 abbrev pub kind_by : Bool → Bool → Kind
 kind_by true true = WithCredentials

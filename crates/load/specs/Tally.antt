@@ -1,12 +1,8 @@
 -- F-13: what is counted of the handshakes.
-use Rattle.std.specs.Prelude.{ℕ, ◌+◌, ◌%◌, ◌^◌, Bool, true, false, cond, List, [], ◌∷◌, length}
+use Rattle.std.specs.Prelude.{ℕ, ◌+◌, ◌%◌, ◌^◌, Bool, true, false, cond, List, length, sum}
 use Rattle.protocol.specs.declared.Outcome.{Outcome}
 use Rattle.protocol.specs.declared.Outcome.TheVariants.{Waiting, Open, Failed}
 use Rattle.load.specs.declared.Tally.{Tally}
-
-unfoldable pub sum_of : List ℕ → ℕ
-sum_of [] = 0
-sum_of (b ∷ s) = b + sum_of s
 
 -- how many opened, how many bytes were sent, and their sum, each modulo 2 to the 64
 pub record Counts : Type 0 where
@@ -19,7 +15,7 @@ no_counts = record { opened = 0; sent = 0; sum = 0 }
 
 -- bytes more were sent
 abbrev pub with_sent : Counts → List ℕ → Counts
-with_sent t bs = record { opened = t.opened; sent = (t.sent + length bs) % 2 ^ 64; sum = (t.sum + sum_of bs) % 2 ^ 64 }
+with_sent t bs = record { opened = t.opened; sent = (t.sent + length bs) % 2 ^ 64; sum = (t.sum + sum bs) % 2 ^ 64 }
 
 abbrev pub is_open : Outcome → Bool
 is_open Waiting = false

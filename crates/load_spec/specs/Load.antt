@@ -1,6 +1,6 @@
 -- F-13, the load: what is drawn for each handshake, its opening, its replies and their pieces, in the request's order.
 use Rattle.std.specs.Prelude.{ℕ, suc, ◌+◌, ◌*◌, ◌/◌, ◌%◌, ◌^◌, ◌≤◌, ◌<◌, ◌≡◌, Bool, true, false, List, [], ◌∷◌, length, take, drop, replicate, eqb}
-use Rattle.protocol.specs.declared.Port.TheVariants.{Given}
+use Rattle.protocol.specs.Answers.{Given}
 use Rattle.protocol.specs.Opening.{V5, V4, Opening, opening5, opening4}
 use Rattle.endings_spec.specs.declared.OutcomeStatus.{OutcomeStatus}
 use Rattle.endings_spec.specs.Endings.{Leads, Wanted}

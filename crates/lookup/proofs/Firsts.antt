@@ -1,42 +1,29 @@
 -- The record chosen is the one that document 01 says: over v5 the first, over v4 the first of family four.
-use Prim.Native.Nat.{ℕ}
 use mathlib.Core.Path.{◌≡◌, refl}
-use mathlib.Core.Bool.{Bool, true, false}
+use mathlib.Core.Bool.{true, false}
 use mathlib.Core.List.{List, [], ◌∷◌}
-use lib.ListN.{take}
+use Prim.Native.Nat.{ℕ}
 use Rattle.protocol.specs.declared.Family.{Family}
 use Rattle.protocol.specs.declared.Family.TheVariants.{Four, Six}
 use Rattle.protocol.specs.declared.Record.{Record}
 use Rattle.protocol.specs.Opening.{first_record, first_four}
-use Rattle.lookup.specs.Chosen.{none_found, step_of, chosen_of, records_of}
+use Rattle.lookup.specs.Chosen.{chosen_of, records_of}
 
--- a record that was found stays
-pub stays : (four : Bool) (r : Record) (rs : List Record) → chosen_of four (record { found = true; first = r }) rs ≡ record { found = true; first = r }
-unfolding chosen_of
-stays four r [] = refl
-stays four r (s ∷ rs) = stays four r rs
-
-pub first_chosen : (rs : List Record) → first_record (records_of (chosen_of false none_found rs)) ≡ first_record rs
-unfolding chosen_of
+pub first_chosen : (rs : List Record) → first_record (records_of (chosen_of false rs)) ≡ first_record rs
 first_chosen [] = refl
 first_chosen (r ∷ rs) = go r.family r.address
   where
     go : (f : Family) (bs : List ℕ)
-        → first_record (records_of (chosen_of false (step_of false none_found (record { family = f; address = bs })) rs)) ≡ first_record (record { family = f; address = bs } ∷ rs)
-    go Four bs = rw (stays false (record { family = Four; address = bs }) rs)
-    go Six bs = rw (stays false (record { family = Six; address = bs }) rs)
+        → first_record (records_of (chosen_of false (record { family = f; address = bs } ∷ rs))) ≡ first_record (record { family = f; address = bs } ∷ rs)
+    go Four bs = refl
+    go Six bs = refl
 
--- it is the first of the first as well
-pub first_alone : (rs : List Record) → first_record (take 1 rs) ≡ first_record rs
-first_alone [] = refl
-first_alone (r ∷ rs) = refl
-
-pub four_chosen : (rs : List Record) → first_four (records_of (chosen_of true none_found rs)) ≡ first_four rs
-unfolding chosen_of first_four
+pub four_chosen : (rs : List Record) → first_four (records_of (chosen_of true rs)) ≡ first_four rs
+unfolding first_four
 four_chosen [] = refl
 four_chosen (r ∷ rs) = go r.family r.address (four_chosen rs)
   where
-    go : (f : Family) (bs : List ℕ) → first_four (records_of (chosen_of true none_found rs)) ≡ first_four rs
-        → first_four (records_of (chosen_of true (step_of true none_found (record { family = f; address = bs })) rs)) ≡ first_four (record { family = f; address = bs } ∷ rs)
-    go Four bs ih = rw (stays true (record { family = Four; address = bs }) rs)
+    go : (f : Family) (bs : List ℕ) → first_four (records_of (chosen_of true rs)) ≡ first_four rs
+        → first_four (records_of (chosen_of true (record { family = f; address = bs } ∷ rs))) ≡ first_four (record { family = f; address = bs } ∷ rs)
+    go Four bs ih = refl
     go Six bs ih = ih

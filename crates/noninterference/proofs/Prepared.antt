@@ -9,13 +9,11 @@ use mathlib.Core.List.{List, [], ◌∷◌, ◌++◌}
 use lib.ListN.{length, replicate, length-append, length-replicate}
 use lib.Dec.{ltb}
 use Rattle.protocol.specs.declared.AuthMethod.TheVariants.{NoAuth, UserPass}
-use Rattle.protocol.specs.declared.Port.{Port}
+use Rattle.protocol.specs.Answers.{Port, Answer, Accepted, Refused}
 use Rattle.protocol.specs.declared.Record.{Record}
 use Rattle.protocol.specs.declared.SocksConfig.{SocksConfig}
 use Rattle.protocol.specs.declared.SocksError.{SocksError}
 use Rattle.protocol.specs.declared.SocksError.TheVariants.{MissingHost, HostByte, MissingPort, CredentialTooLong, HostTooLong, DnsFailure}
-use Rattle.protocol.specs.declared.Answer.{Answer}
-use Rattle.protocol.specs.declared.Answer.TheVariants.{Accepted, Refused}
 use Rattle.protocol.specs.Bytes.{padded}
 use Rattle.protocol.specs.Host.{strip, all_allowed}
 use Rattle.protocol.specs.AddressReading.{Destination, destination_of}

@@ -7,11 +7,9 @@ use mathlib.Core.Bool.{Bool, true, false, ◌||◌}
 use mathlib.Core.List.{List, [], ◌∷◌, ◌++◌, map}
 use lib.ListN.{length, take, drop, replicate, length-map}
 use lib.Dec.{ltb, eqb}
-use Rattle.protocol.specs.declared.Port.{Port}
+use Rattle.protocol.specs.Answers.{Port, Answer, Accepted, Refused}
 use Rattle.protocol.specs.declared.SocksError.{SocksError}
 use Rattle.protocol.specs.declared.SocksError.TheVariants.{ShortOutput, RouteLength}
-use Rattle.protocol.specs.declared.Answer.{Answer}
-use Rattle.protocol.specs.declared.Answer.TheVariants.{Accepted, Refused}
 use Rattle.protocol.specs.declared.Version.{Version}
 use Rattle.protocol.specs.declared.Version.TheVariants as Version
 use Rattle.protocol.specs.AddressReading.{Destination}

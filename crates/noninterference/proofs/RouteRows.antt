@@ -10,8 +10,7 @@ use lib.ListN.{length, take, drop, replicate, length-append}
 use lib.Seq.{take-append_seam}
 use lib.Dec.{leb}
 use Rattle.protocol.specs.declared.SocksError.TheVariants.{ShortOutput, Settled}
-use Rattle.protocol.specs.declared.Answer.{Answer}
-use Rattle.protocol.specs.declared.Answer.TheVariants.{Refused}
+use Rattle.protocol.specs.Answers.{Answer, Refused}
 use Rattle.protocol.specs.Opening.{Opening}
 use Rattle.protocol.specs.declared.Reply.{Reply}
 use Rattle.client_stages.specs.declared.due.Lengths.{Lengths}

@@ -7,7 +7,7 @@ use lib.ListN.{length, take, drop}
 use lib.Seq.{take-append_seam}
 use lib.Dec.{leb}
 use Rattle.protocol.specs.declared.SocksError.TheVariants.{NotOpen, ShortText}
-use Rattle.protocol.specs.declared.Answer.TheVariants.{Accepted}
+use Rattle.protocol.specs.Answers.{Accepted}
 use Rattle.client_stages.specs.outcome.Told.{is_open}
 use Rattle.address_format.specs.endpoint.Text as text
 use Rattle.address_format.specs.endpoint.Written.{TextCall, unwritten, write_text}

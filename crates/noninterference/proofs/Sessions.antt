@@ -12,8 +12,7 @@ use Rattle.protocol.specs.declared.Reply.{Reply}
 use Rattle.protocol.specs.declared.Reply.TheVariants.{NegotiationRes, AuthenticationRes, ProxyRes, Response}
 use Rattle.protocol.specs.declared.AuthMethod.TheVariants.{NoAuth, UserPass, NoneAcceptable}
 use Rattle.protocol.specs.declared.SocksError.TheVariants.{ShortOutput, Settled, OutOfOrder}
-use Rattle.protocol.specs.declared.Answer.{Answer}
-use Rattle.protocol.specs.declared.Answer.TheVariants.{Accepted, Refused}
+use Rattle.protocol.specs.Answers.{Answer, Accepted, Refused}
 use Rattle.protocol.specs.Client.{first_room, room, client, talk_at}
 use Rattle.client_stages.specs.declared.due.Lengths.{Lengths}
 use Rattle.client_stages.specs.declared.due.Requests.{Requests}

@@ -1,6 +1,6 @@
 -- F-6, of routes: proxies' credentials of equal lengths, each at its own positions.
 use Rattle.std.specs.Prelude.{ℕ, ◌+◌, ◌-◌, ◌*◌, ◌≤◌, ◌≡◌, ◌⊎◌, true, List, [], ◌∷◌, length, take}
-use Rattle.protocol.specs.declared.Answer.TheVariants.{Accepted, Refused}
+use Rattle.protocol.specs.Answers.{Accepted, Refused}
 use Rattle.protocol.specs.declared.SocksError.{SocksError}
 use Rattle.protocol.specs.Opening.{Opening, v5, v4, no_auth, user_pass, requests}
 use Rattle.protocol.specs.Machine.{sends}

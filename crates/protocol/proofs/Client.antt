@@ -12,9 +12,7 @@ use Rattle.protocol.specs.declared.AuthMethod.TheVariants.{NoAuth, UserPass, Non
 use Rattle.protocol.specs.declared.SocksError.{SocksError}
 use Rattle.protocol.specs.declared.Reply.{Reply}
 use Rattle.protocol.specs.declared.Reply.TheVariants.{NegotiationRes, AuthenticationRes, ProxyRes, Response}
-use Rattle.protocol.specs.declared.Verdict.TheVariants.{Good, Bad}
-use Rattle.protocol.specs.declared.Decision.{Decision}
-use Rattle.protocol.specs.declared.Decision.TheVariants.{Undecided, Decided}
+use Rattle.protocol.specs.Answers.{Good, Bad, Decision, Undecided, Decided}
 use Rattle.protocol.specs.Bound.{Endpoint, unbound, proxy_bound, response_bound, bound_by}
 use Rattle.protocol.specs.Opening.{no_auth, user_pass, Opening, v5, v4, replies, at_opening, later}
 use Rattle.protocol.specs.Replies.{decide}

@@ -9,8 +9,7 @@ use lib.Seq.{take_all, take_at, drop_at, length-take-le, get_or-take, take-take,
 use lib.Dec.{eqb}
 use Rattle.protocol.specs.declared.Reply.{Reply}
 use Rattle.protocol.specs.declared.Reply.TheVariants.{NegotiationRes, AuthenticationRes, ProxyRes, Response}
-use Rattle.protocol.specs.declared.Verdict.TheVariants.{Good}
-use Rattle.protocol.specs.declared.Decision.TheVariants.{Decided}
+use Rattle.protocol.specs.Answers.{Good, Decided}
 use Rattle.protocol.specs.Bytes.{byte, two_of, padded}
 use Rattle.protocol.specs.AddressReading.{Destination, ipv4, ipv6, domain}
 use Rattle.protocol.specs.Bound.{Endpoint, endpoint, proxy_bound, response_bound, bound_by, address_of, destination}

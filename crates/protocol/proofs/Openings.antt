@@ -9,12 +9,9 @@ use mathlib.Core.List.{List, [], ◌∷◌}
 use lib.ListN.{length}
 use lib.Dec.{leb, ltb, eqb, lit<}
 use borrow.Author.Tests.{lt-ltb, ltb-true, lt-leb, leb-false, eqb-true, not-true}
-use Rattle.protocol.specs.declared.Port.{Port}
-use Rattle.protocol.specs.declared.Port.TheVariants.{Missing, Given}
+use Rattle.protocol.specs.Answers.{Port, Missing, Given, Answer, Accepted, Refused}
 use Rattle.protocol.specs.declared.Record.{Record}
 use Rattle.protocol.specs.declared.SocksError.{SocksError}
-use Rattle.protocol.specs.declared.Answer.{Answer}
-use Rattle.protocol.specs.declared.Answer.TheVariants.{Accepted, Refused}
 use Rattle.protocol.specs.Numbers.{number, answer_number}
 use Rattle.protocol.specs.Host.{strip, all_allowed, Forbidden}
 use Rattle.protocol.specs.AddressText.{Ipv6, Name}

@@ -12,9 +12,7 @@ use Rattle.protocol.specs.declared.AuthMethod.TheVariants.{NoAuth, UserPass, Non
 use Rattle.protocol.specs.declared.SocksError.{SocksError}
 use Rattle.protocol.specs.declared.Reply.{Reply}
 use Rattle.protocol.specs.declared.Reply.TheVariants.{NegotiationRes, AuthenticationRes, ProxyRes, Response}
-use Rattle.protocol.specs.declared.Verdict.TheVariants.{Good, Bad}
-use Rattle.protocol.specs.declared.Decision.{Decision}
-use Rattle.protocol.specs.declared.Decision.TheVariants.{Undecided, Decided}
+use Rattle.protocol.specs.Answers.{Good, Bad, Decision, Undecided, Decided}
 use Rattle.protocol.specs.declared.Outcome.TheVariants.{Waiting, Open}
 use Rattle.protocol.specs.Bytes.{Bytes, two_of}
 use Rattle.protocol.specs.AddressReading.{ipv4}

@@ -15,10 +15,7 @@ use Rattle.protocol.specs.declared.SocksError.{SocksError}
 use Rattle.protocol.specs.declared.SocksError.TheVariants.{Parsing, Unsupported, MethodMismatch, Failed, Command}
 use Rattle.protocol.specs.declared.Reply.{Reply}
 use Rattle.protocol.specs.declared.Reply.TheVariants.{NegotiationRes, AuthenticationRes, ProxyRes, Response}
-use Rattle.protocol.specs.declared.Verdict.{Verdict}
-use Rattle.protocol.specs.declared.Verdict.TheVariants.{Good, Bad}
-use Rattle.protocol.specs.declared.Decision.{Decision}
-use Rattle.protocol.specs.declared.Decision.TheVariants.{Undecided, Decided}
+use Rattle.protocol.specs.Answers.{Verdict, Good, Bad, Decision, Undecided, Decided}
 use Rattle.protocol.specs.Bytes.{Bytes, byte, two_of}
 use Rattle.protocol.specs.Requests.{method_byte}
 use Rattle.protocol.specs.AddressReading.{Destination, ipv4, ipv6, domain}
@@ -105,9 +102,18 @@ upon_inv n bs d k q = go (leb n (length bs)) refl q
     go true e r = (leb-true n (length bs) e, r)
     go false e r = let z : ◌≡◌ {A = ℕ} 0 1 = cc in absurd (omega arith)
 
+-- the parts of a decision
+abbrev pub place_in : Decision → ℕ
+place_in Undecided = 0
+place_in (Decided n v) = n
+
+abbrev pub verdict_in : Decision → Verdict
+verdict_in Undecided = Good
+verdict_in (Decided n v) = v
+
 cond_inv : (b : Bool) (d : Decision) (m : ℕ) (e : SocksError) (k : ℕ) → cond b d (Decided m (Bad e)) ≡ Decided k Good → (b ≡ true) × (d ≡ Decided k Good)
 cond_inv true d m e k q = (refl, q)
-cond_inv false d m e k q = let z : ◌≡◌ {A = ℕ} 0 1 = cc in absurd (omega arith)
+cond_inv false d m e k q = let y : Bad e ≡ Good = ap verdict_in q in let z : ◌≡◌ {A = ℕ} 0 1 = cc in absurd (omega arith)
 
 passed : (b : Bool) (v : Verdict) (e : SocksError) → cond b v (Bad e) ≡ Good → (b ≡ true) × (v ≡ Good)
 passed true v e q = (refl, q)
@@ -118,7 +124,7 @@ unpassed true v e q = let z : ◌≡◌ {A = ℕ} 0 1 = cc in absurd (omega arit
 unpassed false v e q = (refl, q)
 
 pub at_place : (n : ℕ) (v : Verdict) (k : ℕ) → Decided n v ≡ Decided k Good → (n ≡ k) × (v ≡ Good)
-at_place n v k q = (cc, cc)
+at_place n v k q = (ap place_in q, ap verdict_in q)
 
 cut : (k : ℕ) (l : List ℕ) → l ≡ take k l ++ drop k l
 cut k l = sym (take-append-drop k l)

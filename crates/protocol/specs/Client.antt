@@ -6,10 +6,7 @@ use Rattle.protocol.specs.declared.SocksError.{SocksError}
 use Rattle.protocol.specs.declared.SocksError.TheVariants.{MethodMismatch, Settled, ShortOutput}
 use Rattle.protocol.specs.declared.Reply.{Reply}
 use Rattle.protocol.specs.declared.Reply.TheVariants.{NegotiationRes, AuthenticationRes, ProxyRes, Response}
-use Rattle.protocol.specs.declared.Verdict as code
-use Rattle.protocol.specs.declared.Verdict.TheVariants.{Good, Bad}
-use Rattle.protocol.specs.declared.Decision as codes
-use Rattle.protocol.specs.declared.Decision.TheVariants.{Undecided, Decided}
+use Rattle.protocol.specs.Answers as code
 use Rattle.protocol.specs.declared.Outcome.{Outcome}
 use Rattle.protocol.specs.declared.Outcome.TheVariants.{Waiting, Open, Failed}
 use Rattle.protocol.specs.Requests.{negotiation_req, authentication_req, proxy_req, request}
@@ -54,12 +51,12 @@ talk_at c Response = await Response (λ m. stop (done (response_bound m)))
 
 -- a decision as any side has it
 abbrev pub judged : code.Verdict → Verdict SocksError
-judged Good = good
-judged (Bad e) = bad e
+judged code.Good = good
+judged (code.Bad e) = bad e
 
-abbrev pub told : codes.Decision → Decision SocksError
-told Undecided = undecided
-told (Decided n v) = decided n (judged v)
+abbrev pub told : code.Decision → Decision SocksError
+told code.Undecided = undecided
+told (code.Decided n v) = decided n (judged v)
 
 abbrev pub client : Kept → Side
 client c =

@@ -1,7 +1,6 @@
 -- Document 01's number and status of each refusal and failure, and its numbers of an answer and of an outcome.
 use Rattle.std.specs.Prelude.{ℕ}
-use Rattle.protocol.specs.declared.Answer.{Answer}
-use Rattle.protocol.specs.declared.Answer.TheVariants.{Accepted, Refused}
+use Rattle.protocol.specs.Answers.{Answer, Accepted, Refused}
 use Rattle.protocol.specs.declared.Outcome.{Outcome}
 use Rattle.protocol.specs.declared.Outcome.TheVariants as Out
 use Rattle.protocol.specs.declared.Outcome.TheVariants.{Waiting, Open}

@@ -4,10 +4,7 @@ use Rattle.protocol.specs.declared.AuthMethod.{AuthMethod}
 use Rattle.protocol.specs.declared.SocksError.TheVariants.{Parsing, Unsupported, MethodMismatch, Failed, Command}
 use Rattle.protocol.specs.declared.Reply.{Reply}
 use Rattle.protocol.specs.declared.Reply.TheVariants.{NegotiationRes, AuthenticationRes, ProxyRes, Response}
-use Rattle.protocol.specs.declared.Verdict.{Verdict}
-use Rattle.protocol.specs.declared.Verdict.TheVariants.{Good, Bad}
-use Rattle.protocol.specs.declared.Decision.{Decision}
-use Rattle.protocol.specs.declared.Decision.TheVariants.{Undecided, Decided}
+use Rattle.protocol.specs.Answers.{Verdict, Good, Bad, Decision, Undecided, Decided}
 use Rattle.protocol.specs.Bytes.{byte}
 use Rattle.protocol.specs.Requests.{method_byte}
 use Rattle.protocol.specs.Utf8.{is_utf8}

@@ -1,7 +1,6 @@
 -- Worked openings, by document 01's own words: the whole bytes of each request, and each number that preparing is refused with.
 use Rattle.std.specs.Prelude.{ℕ, true, false, List, [], ◌∷◌, ◌++◌, replicate}
-use Rattle.protocol.specs.declared.Port.{Port}
-use Rattle.protocol.specs.declared.Port.TheVariants.{Missing, Given}
+use Rattle.protocol.specs.Answers.{Port, Missing, Given}
 use Rattle.protocol.specs.declared.Family.TheVariants.{Four, Six}
 use Rattle.protocol.specs.declared.Record.{Record}
 use Rattle.protocol.specs.Numbers.{answer_number}

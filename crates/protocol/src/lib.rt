@@ -62,13 +62,6 @@ pub enum AuthMethod {
     NoneAcceptable,
 }
 
-// A destination's port, or none.
-#[derive(Clone, Copy)]
-pub enum Port {
-    Missing,
-    Given(u16),
-}
-
 #[derive(Clone, Copy)]
 pub enum Family {
     Four,
@@ -144,13 +137,6 @@ pub enum SocksError {
     ShortStream,
 }
 
-// What a call answers beside its values.
-#[derive(Clone, Copy)]
-pub enum Answer {
-    Accepted,
-    Refused(SocksError),
-}
-
 // The reply that a session waits for. A NegotiationRes answers the method that was sent.
 #[derive(Clone, Copy)]
 pub enum Reply {
@@ -158,19 +144,6 @@ pub enum Reply {
     AuthenticationRes,
     ProxyRes,
     Response,
-}
-
-#[derive(Clone, Copy)]
-pub enum Verdict {
-    Good,
-    Bad(SocksError),
-}
-
-// What the unread bytes say of a reply: not yet decided, or decided by so many of them, and how.
-#[derive(Clone, Copy)]
-pub enum Decision {
-    Undecided,
-    Decided(usize, Verdict),
 }
 
 #[derive(Clone, Copy)]

@@ -8,8 +8,7 @@ use mathlib.Core.List.{List, [], ◌++◌}
 use lib.ListN.{length, take, drop, take-append-drop}
 use lib.Seq.{drop-length}
 use lib.Dec.{lit<}
-use Rattle.protocol.specs.declared.Answer as code
-use Rattle.protocol.specs.declared.Answer.TheVariants.{Accepted, Refused}
+use Rattle.protocol.specs.Answers as code
 use Rattle.protocol.specs.declared.SocksError.{SocksError}
 use Rattle.protocol.specs.declared.SocksError.TheVariants.{CredentialTooLong, UnexpectedEof, Command}
 use Rattle.protocol.specs.declared.Version.{Version}
@@ -62,18 +61,18 @@ asked_replies f c s ds k a q status x out l = (f (tunnel_of s ds).session a.vers
 
 module _ (s : Server) (v : Version) (status : ℕ) (x : Endpoint) (out : List ℕ) (k : Answering s v status x out) where
   -- success: it is open, with its destination
-  pub success_opens : status_to v status ≡ success v → called (answer s status x out) ≡ (Accepted, 0, Open, destination s)
+  pub success_opens : status_to v status ≡ success v → called (answer s status x out) ≡ (code.Accepted, 0, Open, destination s)
   success_opens z = let t = k.opens z in λ i. (k.accepts i, failure (t.outcomes i), t.outcomes i, t.destinations i)
 
   -- anything else: it has failed with 15 and the status that was sent, and hands out nothing
-  pub other_fails : (status_to v status ≡ success v → ⊥) → called (answer s status x out) ≡ (Accepted, 15, Failed (Command (status_to v status)), nowhere)
+  pub other_fails : (status_to v status ≡ success v → ⊥) → called (answer s status x out) ≡ (code.Accepted, 15, Failed (Command (status_to v status)), nowhere)
   other_fails n = let t = k.fails n in λ i. (k.accepts i, k.fails_15 n i, t.outcomes i, t.destinations i)
 
 -- ---- set-up
 
-refused_by : (a : code.Answer) (n : ℕ) → 0 < n → answer_number a ≡ n → (e : SocksError) × (number e ≡ n) × (a ≡ Refused e)
-refused_by Accepted n l q = absurd (omega arith)
-refused_by (Refused e) n l q = (e, q, refl)
+refused_by : (a : code.Answer) (n : ℕ) → 0 < n → answer_number a ≡ n → (e : SocksError) × (number e ≡ n) × (a ≡ code.Refused e)
+refused_by code.Accepted n l q = absurd (omega arith)
+refused_by (code.Refused e) n l q = (e, q, refl)
 
 module _ (authenticates : Bool) (user password : List ℕ) (k : SettingUp authenticates user password) where
   abbrev made : ℕ × Outcome × Target
@@ -99,7 +98,7 @@ module _ (authenticates : Bool) (user password : List ℕ) (k : SettingUp authen
       λ i. (q i, t.outcomes i, t.destinations i)
 
   -- and it keeps nothing of them
-  pub long_kept : (e : SocksError) → (set_up authenticates user password).answer ≡ Refused e → ((set_up authenticates user password).server.held ≡ 0) × ((set_up authenticates user password).server.user.len ≡ 0)
+  pub long_kept : (e : SocksError) → (set_up authenticates user password).answer ≡ code.Refused e → ((set_up authenticates user password).server.held ≡ 0) × ((set_up authenticates user password).server.user.len ≡ 0)
   long_kept e r = let q = k.empty e r in (ap (λ (s : Server). s.held) q, ap (λ (s : Server). s.user.len) q)
 
 -- ---- calls in turn and out of turn, of any end
@@ -143,14 +142,14 @@ module _ (s : Server) (k : InTurn s) (status : ℕ) (x : Endpoint) (piece out : 
   )
 
   -- one that waits: the end of the stream is taken and comes to 9, and an empty piece, lent enough, is taken and changes nothing
-  pub waiting_ends : outcome s ≡ Waiting → called (end s) ≡ (Accepted, 9, Failed UnexpectedEof, nowhere)
+  pub waiting_ends : outcome s ≡ Waiting → called (end s) ≡ (code.Accepted, 9, Failed UnexpectedEof, nowhere)
   waiting_ends q =
       let a = number_accepted _ (k.end_number.accepts.1 (λ f. f q, tt)) in
       let t = k.end_fails a in
       let n = k.end_nine a in
       λ i. (a i, n i, t.outcomes i, t.destinations i)
 
-  pub waiting_takes : outcome s ≡ Waiting → 262 ≤ length out → deliver s [] out ≡ record { answer = Accepted; session = s; used = 0; sent = 0; output = out }
+  pub waiting_takes : outcome s ≡ Waiting → 262 ≤ length out → deliver s [] out ≡ record { answer = code.Accepted; session = s; used = 0; sent = 0; output = out }
   waiting_takes q l = k.nothing out (number_accepted _ ((k.deliver_number [] out).accepts.1 (λ f. f q, (λ h. omega arith, tt))))
 
   pub deliver_parted : Parted (deliver s piece out) out

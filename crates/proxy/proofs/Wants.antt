@@ -7,7 +7,7 @@ use mathlib.Core.List.{List, [], ◌∷◌}
 use lib.ListN.{length}
 use lib.Dec.{leb, ltb, lit≤}
 use borrow.Author.Tests.{ltb-false}
-use Rattle.protocol.specs.declared.Answer.TheVariants.{Accepted}
+use Rattle.protocol.specs.Answers.{Accepted}
 use Rattle.protocol.specs.declared.SocksError.TheVariants.{ShortOutput, Settled}
 use Rattle.protocol.specs.Bytes.{Bytes}
 use Rattle.protocol.specs.Bound.{Endpoint}

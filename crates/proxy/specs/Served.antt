@@ -1,7 +1,6 @@
 -- F-3's promise, one claim over every list of deliveries to the proxy's end, as demand 3's: a field for each sentence.
 use Rattle.std.specs.Prelude.{◌≡◌, Bool, List, [], ℕ, length, drop}
-use Rattle.protocol.specs.declared.Answer.{Answer}
-use Rattle.protocol.specs.declared.Answer.TheVariants.{Accepted}
+use Rattle.protocol.specs.Answers.{Answer, Accepted}
 use Rattle.protocol.specs.Bytes.{padded, BytePieces}
 use Rattle.protocol.specs.Bound.{Endpoint, unbound, kind_in, bytes_in}
 use Rattle.proxy_spec.specs.declared.Stage.TheVariants as stage

@@ -1,6 +1,6 @@
 -- F-3's checks: 5 at its set-up; of any end, set up or not, 16 for a call out of turn, then 1 for output under 262, and a refused call touches nothing.
 use Rattle.std.specs.Prelude.{ℕ, ◌≤◌, ◌<◌, ◌≡◌, ◌⊎◌, Bool, true, false, List, [], ◌∷◌, length, take}
-use Rattle.protocol.specs.declared.Answer.TheVariants.{Accepted, Refused}
+use Rattle.protocol.specs.Answers.{Accepted, Refused}
 use Rattle.protocol.specs.declared.SocksError.{SocksError}
 use Rattle.protocol.specs.declared.SocksError.TheVariants.{CredentialTooLong, UnexpectedEof, Command}
 use Rattle.protocol.specs.declared.Version.{Version}

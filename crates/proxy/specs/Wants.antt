@@ -1,6 +1,6 @@
 -- What the proxy's end wants, one claim over every list of deliveries to it, and one of any end.
 use Rattle.std.specs.Prelude.{ℕ, ◌≤◌, ◌≡◌, Bool, List, length}
-use Rattle.protocol.specs.declared.Answer.TheVariants.{Accepted}
+use Rattle.protocol.specs.Answers.{Accepted}
 use Rattle.protocol.specs.Bytes.{Bytes}
 use Rattle.proxy_spec.specs.End.{Setup}
 use Rattle.proxy_spec.specs.Wants.{WantedBy}

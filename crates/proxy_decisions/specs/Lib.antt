@@ -1,2 +1,3 @@
 pub mod decision
 pub mod destination
+pub mod wants

@@ -1,13 +1,16 @@
 // F-3: what follows a whole field of a client's requests: what the end says, and which field it then awaits, or how it stands.
-ghost use Rattle.std.specs.Prelude.{◌≡◌, ◌++◌};
+#![tactic(auto, unfolding(crate::specs::decision::Due::due_at))]
+
+ghost use Rattle.std.specs.Prelude.{◌≡◌};
 ghost use Rattle.proxy_decisions.specs.decision.Due.{goes_to, fails_with, asks_in, behind_greeting, due_first, due_methods, due_password, due_head, due_address, due_request, due_user_id, due_at};
 
+use crate::credentials::Credentials;
 use crate::tests::{announces_name, is_known, offers, ports_of, same};
 use protocol::{SocksError, Version};
+use proxy_requests::unread::Unread;
 use proxy_spec::{Field, Ports, Says, Stage};
-use reader::byte;
 
-// What is said, and the stage behind it. In what follows `held` and then `piece` are the bytes of a whole field, and no others.
+// What is said, and the stage behind it. In what follows `bytes` are those of a whole field, and no others.
 #[derive(Clone, Copy)]
 pub struct Due {
     pub stage: Stage,
@@ -29,7 +32,7 @@ fn fails(error: SocksError, says: Says) -> Due
 {
     Due {
         stage: Stage::Failed(error),
-        says: says,
+        says,
     }
 }
 
@@ -43,13 +46,14 @@ fn asks(version: Version) -> Due
     }
 }
 
-fn judge_first(held: &[u8], piece: &[u8]) -> Due
-    ensures { result ≡ due_first (held.now ++ piece.now) }
+fn judge_first(bytes: &Unread) -> Due
+    ensures { result ≡ due_first bytes.now }
 {
-    if byte(held, piece, 0) == 0x05 {
-        return goes_to(Field::Methods);
-    }
-    goes_to(Field::Request)
+    goes_to(if bytes.byte(0) == 0x05 {
+        Field::Methods
+    } else {
+        Field::Request
+    })
 }
 
 // What is awaited behind the greeting.
@@ -63,11 +67,11 @@ fn behind_greeting(authenticates: bool) -> Field
     }
 }
 
-fn judge_methods(authenticates: bool, held: &[u8], piece: &[u8]) -> Due
-    ensures { result ≡ due_methods authenticates (held.now ++ piece.now) }
+fn judge_methods(authenticates: bool, bytes: &Unread) -> Due
+    ensures { result ≡ due_methods authenticates bytes.now }
 {
     let method = if authenticates { 0x02 } else { 0x00 };
-    if offers(method, held, piece) {
+    if offers(method, bytes) {
         return Due {
             stage: Stage::Awaiting(behind_greeting(authenticates)),
             says: Says::Method(method),
@@ -76,10 +80,10 @@ fn judge_methods(authenticates: bool, held: &[u8], piece: &[u8]) -> Due
     fails(SocksError::Unsupported, Says::Method(0xFF))
 }
 
-fn judge_password(right: bool, password: &[u8], held: &[u8], piece: &[u8]) -> Due
-    ensures { result ≡ due_password right password.now (held.now ++ piece.now) }
+fn judge_password(right: bool, password: &[u8], bytes: &Unread) -> Due
+    ensures { result ≡ due_password right password.now bytes.now }
 {
-    if right && same(held, piece, 1, password) {
+    if right && same(bytes, 1, password) {
         return Due {
             stage: Stage::Awaiting(Field::Head),
             says: Says::Login(0x00),
@@ -88,12 +92,12 @@ fn judge_password(right: bool, password: &[u8], held: &[u8], piece: &[u8]) -> Du
     fails(SocksError::WrongCredentials, Says::Login(0x01))
 }
 
-fn judge_head(held: &[u8], piece: &[u8]) -> Due
-    ensures { result ≡ due_head (held.now ++ piece.now) }
+fn judge_head(bytes: &Unread) -> Due
+    ensures { result ≡ due_head bytes.now }
 {
-    let kind = byte(held, piece, 3);
+    let kind = bytes.byte(3);
     if is_known(kind) {
-        return goes_to(Field::Address(byte(held, piece, 1), kind));
+        return goes_to(Field::Address(bytes.byte(1), kind));
     }
     fails(SocksError::Command(8), Says::Reply5(8))
 }
@@ -129,25 +133,18 @@ fn judge_user_id(authenticates: bool, ports: Ports) -> Due
     judge_request(authenticates, ports.command)
 }
 
-pub fn judge(
-    field: Field,
-    authenticates: bool,
-    user: &[u8],
-    password: &[u8],
-    held: &[u8],
-    piece: &[u8],
-) -> Due
-    ensures { result ≡ due_at (record { authenticates = authenticates; user = user.now; password = password.now }) field (held.now ++ piece.now) }
+pub fn judge(field: Field, credentials: &Credentials, bytes: &Unread) -> Due
+    ensures { result ≡ due_at credentials.now field bytes.now }
 {
     match field {
-        Field::First => judge_first(held, piece),
-        Field::Methods => judge_methods(authenticates, held, piece),
-        Field::User => goes_to(Field::Password(same(held, piece, 2, user))),
-        Field::Password(right) => judge_password(right, password, held, piece),
-        Field::Head => judge_head(held, piece),
-        Field::Address(command, kind) => judge_address(command),
-        Field::Request => goes_to(Field::UserId(ports_of(held, piece))),
-        Field::UserId(ports) => judge_user_id(authenticates, ports),
-        Field::Name(ports) => judge_request(authenticates, ports.command),
+        Field::First => judge_first(bytes),
+        Field::Methods => judge_methods(credentials.authenticates, bytes),
+        Field::User => goes_to(Field::Password(same(bytes, 2, credentials.user))),
+        Field::Password(right) => judge_password(right, credentials.password, bytes),
+        Field::Head => judge_head(bytes),
+        Field::Address(command, _) => judge_address(command),
+        Field::Request => goes_to(Field::UserId(ports_of(bytes))),
+        Field::UserId(ports) => judge_user_id(credentials.authenticates, ports),
+        Field::Name(ports) => judge_request(credentials.authenticates, ports.command),
     }
 }

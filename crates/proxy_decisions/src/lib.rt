@@ -2,6 +2,7 @@
 
 #![tactic(auto)]
 
+pub mod credentials;
 pub mod decision;
 pub mod destination;
 pub mod tests;

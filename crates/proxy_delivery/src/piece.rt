@@ -8,9 +8,10 @@ ghost use Rattle.proxy_delivery.specs.piece.Pieces.{Keeps, Asks, TakeResult};
 
 use crate::turns::{Turn, work};
 use buffers::hold::keep_rest;
-use buffers::write::least;
-use protocol::Bound;
+use protocol::{Bound, NAME_V4};
+use proxy_decisions::credentials::Credentials;
 use proxy_decisions::destination::keep;
+use proxy_requests::unread::Unread;
 use proxy_spec::{Field, Stage};
 
 // What a piece comes to beside the hold and the output: the stage, how many bytes are held, were used and were sent, and the destination but
@@ -28,13 +29,12 @@ pub struct Taken {
 fn failed(turn: Turn, n: usize, bound: Bound) -> Taken
     ensures { result ≡ record { stage = turn.stage; held = 0; used = turn.place - n; sent = turn.sent; bound = bound } }
 {
-    let stage = turn.stage;
     Taken {
-        stage: stage,
+        stage: turn.stage,
         held: 0,
-        used: turn.place - least(turn.place, n),
+        used: turn.place.saturating_sub(n),
         sent: turn.sent,
-        bound: bound,
+        bound,
     }
 }
 
@@ -43,14 +43,13 @@ fn waits(turn: Turn, hold: &mut [u8], n: usize, piece: &[u8], bound: Bound) -> T
     requires { (length hold.old ≡ 1014) × (n ≤ 1014) × (turn.place ≤ n + length piece.now) × (n + length piece.now ≤ turn.place + 1014) }
     ensures { (result ≡ record { stage = turn.stage; held = n + length piece.now - turn.place; used = length piece.now; sent = turn.sent; bound = bound }) × (hold.new ≡ overwrite hold.old 0 (drop turn.place (take n hold.old ++ piece.now))) }
 {
-    let stage = turn.stage;
     keep_rest(hold, n, piece, turn.place);
     Taken {
-        stage: stage,
+        stage: turn.stage,
         held: n + piece.len() - turn.place,
         used: piece.len(),
         sent: turn.sent,
-        bound: bound,
+        bound,
     }
 }
 
@@ -59,58 +58,42 @@ fn asks(turn: Turn, hold: &mut [u8], n: usize, piece: &[u8]) -> Taken
     requires { (length hold.old ≡ 1014) × (n ≤ 1014) × (turn.begin ≤ turn.place) × (turn.place ≤ n + length piece.now) × Last turn.last (last_in turn (take n hold.old ++ piece.now)) }
     ensures { Asks (asks_at turn.last (last_in turn (take n hold.old ++ piece.now))) turn.stage (turn.place - n) turn.sent hold.old result hold.new }
 {
-    let stage = turn.stage;
-    let last = turn.last;
-    let kept = keep(last, hold, n, piece, turn.begin, turn.place);
-    let bound = kept.bound;
+    let kept = keep(turn.last, hold, n, piece, turn.begin, turn.place);
     Taken {
-        stage: stage,
+        stage: turn.stage,
         held: kept.len,
-        used: turn.place - least(turn.place, n),
+        used: turn.place.saturating_sub(n),
         sent: turn.sent,
-        bound: bound,
+        bound: kept.bound,
     }
 }
 
-// What the piece came to, where no turn follows.
+// What the piece came to, where no turn follows. The hold is a slice, since F-7 lends a part of its bytes.
 pub fn came_to(turn: Turn, hold: &mut [u8], n: usize, piece: &[u8], bound: Bound) -> Taken
     requires { (length hold.old ≡ 1014) × (n ≤ 1014) × (turn.begin ≤ turn.place) × (turn.place ≤ n + length piece.now) × Rests turn.stage (drop turn.place (take n hold.old ++ piece.now)) × Ready turn.stage turn.last (last_in turn (take n hold.old ++ piece.now)) }
     ensures { Keeps (session_at turn.stage (asks_at turn.last (last_in turn (take n hold.old ++ piece.now))) (drop turn.place (take n hold.old ++ piece.now))) turn.place (take n hold.old) piece.now hold.old bound result hold.new × (result.sent ≡ turn.sent) }
 {
-    let stage = turn.stage;
-    match stage {
-        Stage::Awaiting(field) => waits(turn, hold, n, piece, bound),
-        Stage::Asked(version) => asks(turn, hold, n, piece),
-        Stage::Open(version) => failed(turn, n, bound),
-        Stage::Failed(error) => failed(turn, n, bound),
+    match turn.stage {
+        Stage::Awaiting(_) => waits(turn, hold, n, piece, bound),
+        Stage::Asked(_) => asks(turn, hold, n, piece),
+        Stage::Open(_) | Stage::Failed(_) => failed(turn, n, bound),
     }
 }
 
 // Takes a piece behind the first n bytes of the hold.
 pub fn take(
     field: Field,
-    authenticates: bool,
-    user: &[u8],
-    password: &[u8],
-    hold: &mut [u8],
+    credentials: &Credentials,
+    hold: &mut [u8; NAME_V4],
     n: usize,
     piece: &[u8],
     bound: Bound,
     out: &mut [u8],
 ) -> Taken
-    requires { (length hold.old ≡ 1014) × (n ≤ 1014) × (262 ≤ length out.old) }
-    ensures { TakeResult (record { authenticates = authenticates; user = user.now; password = password.now }) field (take n hold.old) piece.now hold.old bound out.old result hold.new out.new }
+    requires { (n ≤ 1014) × (262 ≤ length out.old) }
+    ensures { TakeResult credentials.now field (take n hold.old) piece.now hold.old bound out.old result hold.new out.new }
 {
-    let turn = work(
-        field,
-        authenticates,
-        user,
-        password,
-        &hold[..n],
-        piece,
-        0,
-        out,
-        0,
-    );
+    let unread = Unread::new(&hold[..n], piece);
+    let turn = work(field, credentials, &unread, 0, out, 0);
     came_to(turn, hold, n, piece, bound)
 }

@@ -2,11 +2,11 @@
 ghost use Rattle.std.specs.Prelude.{◌≡◌};
 ghost use Rattle.proxy_spec.specs.End as machine;
 ghost use Rattle.proxy_spec.specs.End.{endpoint_of, stage_after};
-ghost use Rattle.proxy_replies.specs.stages.Told.{outcome_at, has_destination, unended, end_at};
+ghost use Rattle.proxy_replies.specs.stages.Told.{outcome_at, has_destination, end_at};
 ghost use Rattle.proxy_replies.specs.stages.Answers.{unanswered, answer_asked, answer_at, AnswerResult};
 
 use crate::write::{put_answer, status_to};
-use protocol::{Answer, PROXY_OUTPUT, Record, SocksError, Version};
+use protocol::{PROXY_OUTPUT, Record, SocksError, Version};
 use proxy_spec::Stage;
 
 // Waiting for bytes; asked, and awaiting the caller's answer; open; or failed, and with what.
@@ -22,9 +22,9 @@ pub fn outcome_at(stage: Stage) -> Outcome
     ensures { result ≡ outcome_at stage }
 {
     match stage {
-        Stage::Awaiting(field) => Outcome::Waiting,
-        Stage::Asked(version) => Outcome::Asked,
-        Stage::Open(version) => Outcome::Open,
+        Stage::Awaiting(_) => Outcome::Waiting,
+        Stage::Asked(_) => Outcome::Asked,
+        Stage::Open(_) => Outcome::Open,
         Stage::Failed(error) => Outcome::Failed(error),
     }
 }
@@ -33,53 +33,24 @@ pub fn outcome_at(stage: Stage) -> Outcome
 pub fn has_destination(stage: Stage) -> bool
     ensures { result ≡ has_destination stage }
 {
-    match stage {
-        Stage::Awaiting(field) => false,
-        Stage::Asked(version) => true,
-        Stage::Open(version) => true,
-        Stage::Failed(error) => false,
-    }
+    matches!(stage, Stage::Asked(_) | Stage::Open(_))
 }
 
-// What an end of stream answers, and the stage and the number of held bytes behind it.
-#[derive(Clone, Copy)]
-pub struct Ending {
-    pub answer: Answer,
-    pub stage: Stage,
-    pub held: usize,
-}
-
-// The stream is not at its end for this one.
-fn unended(stage: Stage, held: usize) -> Ending
-    ensures { result ≡ unended stage held }
-{
-    Ending {
-        answer: Answer::Refused(SocksError::Settled),
-        stage: stage,
-        held: held,
-    }
-}
-
-// The stream has ended: an end that waits has failed, and holds nothing.
-pub fn end(stage: Stage, held: usize) -> Ending
-    ensures { result ≡ end_at stage held }
+// The stream has ended: an end that waits has failed, and then holds nothing. It is not at its end for another.
+pub fn end(stage: Stage) -> Result<Stage, SocksError>
+    ensures { result ≡ end_at stage }
 {
     match stage {
-        Stage::Awaiting(field) => Ending {
-            answer: Answer::Accepted,
-            stage: Stage::Failed(SocksError::UnexpectedEof),
-            held: 0,
-        },
-        Stage::Asked(version) => unended(stage, held),
-        Stage::Open(version) => unended(stage, held),
-        Stage::Failed(error) => unended(stage, held),
+        Stage::Awaiting(_) => Ok(Stage::Failed(SocksError::UnexpectedEof)),
+        Stage::Asked(_) | Stage::Open(_) | Stage::Failed(_) => Err(SocksError::Settled),
     }
 }
 
 // What the caller's answer is answered with, how many bytes it sent, and the stage behind it.
+// A refused one has a stage too, so that the value is rebuilt in one way.
 #[derive(Clone, Copy)]
 pub struct Said {
-    pub answer: Answer,
+    pub answer: Result<(), SocksError>,
     pub sent: usize,
     pub stage: Stage,
 }
@@ -88,9 +59,9 @@ fn unanswered(error: SocksError, stage: Stage) -> Said
     ensures { result ≡ unanswered error stage }
 {
     Said {
-        answer: Answer::Refused(error),
+        answer: Err(error),
         sent: 0,
-        stage: stage,
+        stage,
     }
 }
 
@@ -123,7 +94,7 @@ fn answer_asked(version: Version, status: u8, bound: Record, port: u16, out: &mu
         return unanswered(SocksError::ShortOutput, Stage::Asked(version));
     }
     Said {
-        answer: Answer::Accepted,
+        answer: Ok(()),
         sent: put_answer(out, version, status, bound, port),
         stage: stage_after(version, status),
     }
@@ -134,9 +105,7 @@ pub fn answer(stage: Stage, status: u8, bound: Record, port: u16, out: &mut [u8]
     ensures { AnswerResult (answer_at stage status (endpoint_of bound port) out.old) result out.new }
 {
     match stage {
-        Stage::Awaiting(field) => unanswered(SocksError::Settled, stage),
         Stage::Asked(version) => answer_asked(version, status, bound, port, out),
-        Stage::Open(version) => unanswered(SocksError::Settled, stage),
-        Stage::Failed(error) => unanswered(SocksError::Settled, stage),
+        _ => unanswered(SocksError::Settled, stage),
     }
 }

@@ -41,12 +41,10 @@ fn put_connect_reply(out: &mut [u8], at: usize, status: u8, bound: Record, port:
     requires { at + 22 ≤ length out.old }
     ensures { Wrote out.old at (connect_reply status (endpoint_of bound port)) result out.new }
 {
-    let family = bound.family;
-    let address = bound.address;
-    let n = size_of(family);
+    let n = size_of(bound.family);
     let second = put_two(out, at, 0x05, status);
-    let third = put_two(out, second, 0x00, type_of(family));
-    let last = copy(out, third, &address[..n]);
+    let third = put_two(out, second, 0x00, type_of(bound.family));
+    let last = copy(out, third, &bound.address[..n]);
     put_port(out, last, port)
 }
 
@@ -54,10 +52,9 @@ fn put_connect_reply(out: &mut [u8], at: usize, status: u8, bound: Record, port:
 fn four_of(bound: Record) -> [u8; 16]
     ensures { result ≡ four_of bound }
 {
-    let family = bound.family;
-    match family {
+    match bound.family {
         Family::Four => bound.address,
-        Family::Six => [0u8; 16],
+        Family::Six => [0; 16],
     }
 }
 
@@ -78,7 +75,7 @@ fn no_address() -> Record
 {
     Record {
         family: Family::Four,
-        address: [0u8; 16],
+        address: [0; 16],
     }
 }
 
@@ -100,13 +97,10 @@ pub fn put(out: &mut [u8], at: usize, says: Says) -> usize
 pub fn status_to(version: Version, status: u8) -> u8
     ensures { result ≡ status_to version status }
 {
-    match version {
-        Version::V4 => if 90 <= status && status <= 93 {
-            status
-        } else {
-            91
-        },
-        Version::V5 => if status <= 8 { status } else { 1 },
+    match (version, status) {
+        (Version::V4, 90..=93) | (Version::V5, 0..=8) => status,
+        (Version::V4, _) => 91,
+        (Version::V5, _) => 1,
     }
 }
 

@@ -9,6 +9,9 @@ use lib.ListN.{length, drop, drop_of_length-le}
 use lib.Seq.{drop-cons}
 use lib.Dec.{leb, eqb, leb-zero, leb-suc-zero, leb-suc-suc}
 use borrow.Author.Tests.{le-leb, lt-leb, eq-eqb, ne_eqb, leb-true, leb-false}
+use Rattle.std.specs.List.{slice_get}
+use Rattle.std.specs.Prelude.{Some, None}
+use Rattle.std.proofs.lemmas.Option.{none-some, slice_get_within, get_or_from_slice_get}
 use Rattle.protocol.specs.Bytes.{byte}
 use Rattle.protocol.specs.declared.SocksError.{SocksError}
 use Rattle.protocol.specs.declared.SocksError.TheVariants.{Malformed}
@@ -118,30 +121,26 @@ module _ (fewest most : ℕ) (bs : List ℕ) (n : ℕ) (q : n ≡ run_of most bs
   seen : text_in most bs ≡ seen_at bs n
   seen = text_run most bs ∙ ap (seen_at bs) (sym q)
 
-  pub text_late : length bs ≤ n → undecided ≡ read_within fewest (text_in most bs)
-  text_late k = rw (seen, le-leb (length bs) n k)
+  pub text_late : slice_get bs n ≡ None → undecided ≡ read_within fewest (text_in most bs)
+  text_late e = rw (seen, le-leb (length bs) n (past bs n e))
+    where
+      past : (bs : List ℕ) (n : ℕ) → slice_get bs n ≡ None → length bs ≤ n
+      past [] n e = omega arith
+      past (b ∷ bs) zero e = absurd (none-some b (sym e))
+      past (b ∷ bs) (suc n) e = let h = past bs n e in omega arith
 
-  module _ (k : n < length bs) where
-    pub text_long : (byte bs n ≡ 0x00 → ⊥) → decided (n + 1) (bad Malformed) ≡ read_within fewest (text_in most bs)
-    text_long e = rw (seen, lt-leb (length bs) n k, ne_eqb (byte bs n) 0x00 e, add-one n)
+  module _ (b : ℕ) (g : slice_get bs n ≡ Some b) where
+    k : n < length bs
+    k = slice_get_within bs n b g
 
-    pub text_few : byte bs n ≡ 0x00 → n < fewest → decided (n + 1) (bad Malformed) ≡ read_within fewest (text_in most bs)
-    text_few e l = rw (seen, lt-leb (length bs) n k, eq-eqb (byte bs n) 0x00 e, lt-leb fewest n l, add-one n)
+    stands : byte bs n ≡ b
+    stands = get_or_from_slice_get bs n b 0 g
 
-    pub text_whole : byte bs n ≡ 0x00 → fewest ≤ n → decided (n + 1) good ≡ read_within fewest (text_in most bs)
-    text_whole e l = rw (seen, lt-leb (length bs) n k, eq-eqb (byte bs n) 0x00 e, le-leb fewest n l, add-one n)
+    pub text_long : (b ≡ 0x00 → ⊥) → decided (n + 1) (bad Malformed) ≡ read_within fewest (text_in most bs)
+    text_long e = rw (seen, lt-leb (length bs) n k, ne_eqb (byte bs n) 0x00 (λ h. e (sym stands ∙ h)), add-one n)
 
--- ---- a user id, and a name, which has a byte
+    pub text_few : b ≡ 0x00 → n < fewest → decided (n + 1) (bad Malformed) ≡ read_within fewest (text_in most bs)
+    text_few e l = rw (seen, lt-leb (length bs) n k, eq-eqb (byte bs n) 0x00 (stands ∙ e), lt-leb fewest n l, add-one n)
 
-pub as_text : (seen : Seen ℕ) {r : Decision SocksError} → r ≡ read_within 0 seen → r ≡ read_text seen
-as_text short e = e
-as_text (wrong n) e = e
-as_text (unknown n) e = e
-as_text (whole n m) e = rw (leb-zero m) at e
-
-pub as_name : (seen : Seen ℕ) {r : Decision SocksError} → r ≡ read_within 1 seen → r ≡ read_name seen
-as_name short e = e
-as_name (wrong n) e = e
-as_name (unknown n) e = e
-as_name (whole n zero) e = e
-as_name (whole n (suc m)) e = rw (leb-suc-suc 0 m, leb-zero m) at e
+    pub text_whole : b ≡ 0x00 → fewest ≤ n → decided (n + 1) good ≡ read_within fewest (text_in most bs)
+    text_whole e l = rw (seen, lt-leb (length bs) n k, eq-eqb (byte bs n) 0x00 (stands ∙ e), le-leb fewest n l, add-one n)

@@ -1,8 +1,8 @@
 // F-3: the fields of a client's requests, read from the held bytes and the piece where they stand.
 
-#![tactic(auto)]
+#![tactic(auto, unfolding(proxy_spec::specs::Side::reads))]
 
-ghost use Rattle.std.specs.Prelude.{◌≡◌, ◌++◌, cond, ◌+◌, ◌≤◌, length, drop, leb};
+ghost use Rattle.std.specs.Prelude.{◌≡◌, cond, ◌≤◌, length, drop, leb};
 ghost use Rattle.protocol.specs.Client.{told};
 ghost use Rattle.protocol.specs.declared.SocksError.TheVariants as SocksError;
 ghost use Rattle.talk.specs.Decision.{undecided, decided, good, bad};
@@ -11,183 +11,135 @@ ghost use Rattle.proxy_spec.specs.Side.{reads, read_address};
 ghost use Rattle.proxy_spec.specs.declared.Field.TheVariants as Field;
 ghost use Rattle.proxy_requests.specs.Runs.{run_of, read_within};
 
-use buffers::write::{least, wide};
-use protocol::{Decision, NAME_V4, SocksError, USER_ID, Verdict};
+pub mod unread;
+
+use crate::unread::Unread;
+use protocol::{NAME_V4, SocksError, USER_ID};
 use proxy_spec::Field;
-use reader::byte;
+
+// Undecided, or decided by so many bytes, and how.
+pub type Decision = Option<(usize, Result<(), SocksError>)>;
 
 fn good(n: usize) -> Decision
     ensures { told result ≡ decided n good }
 {
-    Decision::Decided(n, Verdict::Good)
+    Some((n, Ok(())))
 }
 
 fn malformed(n: usize) -> Decision
     ensures { told result ≡ decided n (bad SocksError.Malformed) }
 {
-    Decision::Decided(n, Verdict::Bad(SocksError::Malformed))
+    Some((n, Err(SocksError::Malformed)))
 }
 
 // A field of n bytes, once so many have come.
-fn sized(n: usize, total: usize) -> Decision
-    ensures { told result ≡ cond (leb n total) (decided n good) undecided }
+fn sized(n: usize, bytes: &Unread) -> Decision
+    ensures { told result ≡ cond (leb n (length bytes.now)) (decided n good) undecided }
 {
-    if n <= total {
-        return good(n);
-    }
-    Decision::Undecided
+    if n <= bytes.len() { good(n) } else { None }
 }
 
-fn read_first(held: &[u8], piece: &[u8]) -> Decision
-    ensures { told result ≡ reads Field.First (held.now ++ piece.now) }
+fn read_first(bytes: &Unread) -> Decision
+    ensures { told result ≡ reads Field.First bytes.now }
 {
-    if held.len() + piece.len() < 1 {
-        return Decision::Undecided;
+    match bytes.get(0)? {
+        0x04 | 0x05 => good(1),
+        _ => malformed(1),
     }
-    let version = byte(held, piece, 0);
-    if version == 0x05 || version == 0x04 {
-        return good(1);
-    }
-    malformed(1)
 }
 
-pub fn read_methods(held: &[u8], piece: &[u8]) -> Decision
-    ensures { told result ≡ reads Field.Methods (held.now ++ piece.now) }
+pub fn read_methods(bytes: &Unread) -> Decision
+    ensures { told result ≡ reads Field.Methods bytes.now }
 {
-    let total = held.len() + piece.len();
-    if total < 1 {
-        return Decision::Undecided;
+    match bytes.get(0)? {
+        0 => malformed(1),
+        count => sized(1 + usize::from(count), bytes),
     }
-    let count = wide(byte(held, piece, 0));
-    if count < 1 {
+}
+
+pub fn read_user(bytes: &Unread) -> Decision
+    ensures { told result ≡ reads Field.User bytes.now }
+{
+    if bytes.get(0)? != 0x01 {
         return malformed(1);
     }
-    sized(1 + count, total)
-}
-
-pub fn read_user(held: &[u8], piece: &[u8]) -> Decision
-    ensures { told result ≡ reads Field.User (held.now ++ piece.now) }
-{
-    let total = held.len() + piece.len();
-    if total < 1 {
-        return Decision::Undecided;
-    }
-    if byte(held, piece, 0) != 0x01 {
-        return malformed(1);
-    }
-    if total < 2 {
-        return Decision::Undecided;
-    }
-    sized(2 + wide(byte(held, piece, 1)), total)
+    sized(2 + usize::from(bytes.get(1)?), bytes)
 }
 
 // Whether the user was right is not looked at.
-pub fn read_password(right: bool, held: &[u8], piece: &[u8]) -> Decision
-    ensures { told result ≡ reads (Field.Password right) (held.now ++ piece.now) }
+pub fn read_password(right: bool, bytes: &Unread) -> Decision
+    ensures { told result ≡ reads (Field.Password right) bytes.now }
 {
-    let total = held.len() + piece.len();
-    if total < 1 {
-        return Decision::Undecided;
-    }
-    sized(1 + wide(byte(held, piece, 0)), total)
+    sized(1 + usize::from(bytes.get(0)?), bytes)
 }
 
 // Any command is taken so far.
-pub fn read_head(held: &[u8], piece: &[u8]) -> Decision
-    ensures { told result ≡ reads Field.Head (held.now ++ piece.now) }
+pub fn read_head(bytes: &Unread) -> Decision
+    ensures { told result ≡ reads Field.Head bytes.now }
 {
-    let total = held.len() + piece.len();
-    if total < 1 {
-        return Decision::Undecided;
-    }
-    if byte(held, piece, 0) != 0x05 {
+    if bytes.get(0)? != 0x05 {
         return malformed(1);
     }
-    if total < 3 {
-        return Decision::Undecided;
-    }
-    if byte(held, piece, 2) != 0x00 {
+    if bytes.get(2)? != 0x00 {
         return malformed(3);
     }
-    sized(4, total)
+    sized(4, bytes)
 }
 
 // An address and its port, by the type.
-pub fn read_address(kind: u8, held: &[u8], piece: &[u8]) -> Decision
-    ensures { told result ≡ read_address kind (held.now ++ piece.now) }
+pub fn read_address(kind: u8, bytes: &Unread) -> Decision
+    ensures { told result ≡ read_address kind bytes.now }
 {
-    let total = held.len() + piece.len();
-    if kind == 0x01 {
-        return sized(6, total);
+    match kind {
+        0x01 => sized(6, bytes),
+        0x04 => sized(18, bytes),
+        _ => match bytes.get(0)? {
+            0 => malformed(1),
+            len => sized(3 + usize::from(len), bytes),
+        },
     }
-    if kind == 0x04 {
-        return sized(18, total);
-    }
-    if total < 1 {
-        return Decision::Undecided;
-    }
-    let len = wide(byte(held, piece, 0));
-    if len < 1 {
-        return malformed(1);
-    }
-    sized(3 + len, total)
 }
 
 // How many bytes stand ahead of the first 00, of at most so many.
-fn run_of(held: &[u8], piece: &[u8], most: usize) -> usize
-    ensures { result ≡ run_of most (held.now ++ piece.now) }
+fn run_of(bytes: &Unread, most: usize) -> usize
+    ensures run { result ≡ run_of most bytes.now }
+    ensures at_most { result ≤ most }
 {
-    let end = least(held.len() + piece.len(), most);
-    let mut i: usize = 0;
-    while i < end {
-        if byte(held, piece, i) == 0x00 {
-            break;
+    let end = bytes.len().min(most);
+    // A loop: with `find` over the range the proof was not found.
+    for i in 0..end {
+        if bytes.byte(i) == 0x00 {
+            return i;
         }
-        i += 1;
     }
-    i
+    end
 }
 
 // A text and its 00, of at least and at most so many bytes ahead of it.
-fn read_text(held: &[u8], piece: &[u8], fewest: usize, most: usize) -> Decision
+fn read_text(bytes: &Unread, fewest: usize, most: usize) -> Decision
     requires { most ≤ 1014 }
-    ensures { told result ≡ read_within fewest (text_in most (held.now ++ piece.now)) }
+    ensures { told result ≡ read_within fewest (text_in most bytes.now) }
 {
-    let n = run_of(held, piece, most);
-    if held.len() + piece.len() <= n {
-        return Decision::Undecided;
+    let n = run_of(bytes, most);
+    if bytes.get(n)? == 0x00 && fewest <= n {
+        good(n + 1)
+    } else {
+        malformed(n + 1)
     }
-    if byte(held, piece, n) != 0x00 {
-        return malformed(n + 1);
-    }
-    if n < fewest {
-        return malformed(n + 1);
-    }
-    good(n + 1)
 }
 
-fn read_field(field: Field, held: &[u8], piece: &[u8]) -> Decision
-    ensures { told result ≡ reads field (held.now ++ piece.now) }
+pub fn read_field(field: Field, bytes: &Unread) -> Decision
+    ensures { told result ≡ reads field bytes.now }
 {
     match field {
-        Field::First => read_first(held, piece),
-        Field::Methods => read_methods(held, piece),
-        Field::User => read_user(held, piece),
-        Field::Password(right) => read_password(right, held, piece),
-        Field::Head => read_head(held, piece),
-        Field::Address(command, kind) => read_address(kind, held, piece),
-        Field::Request => sized(7, held.len() + piece.len()),
-        Field::UserId(ports) => read_text(held, piece, 0, USER_ID),
-        Field::Name(ports) => read_text(held, piece, 1, NAME_V4),
+        Field::First => read_first(bytes),
+        Field::Methods => read_methods(bytes),
+        Field::User => read_user(bytes),
+        Field::Password(right) => read_password(right, bytes),
+        Field::Head => read_head(bytes),
+        Field::Address(_, kind) => read_address(kind, bytes),
+        Field::Request => sized(7, bytes),
+        Field::UserId(_) => read_text(bytes, 0, USER_ID),
+        Field::Name(_) => read_text(bytes, 1, NAME_V4),
     }
-}
-
-// The field at a place of the held bytes and then the piece.
-pub fn read_at(field: Field, held: &[u8], piece: &[u8], place: usize) -> Decision
-    requires { place ≤ length held.now + length piece.now }
-    ensures { told result ≡ reads field (drop place (held.now ++ piece.now)) }
-{
-    let a = least(place, held.len());
-    let b = place - a;
-    read_field(field, &held[a..], &piece[b..])
 }

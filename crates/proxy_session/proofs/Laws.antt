@@ -1,5 +1,5 @@
 -- What the parts of a delivery, an answer and an end come to, and what a set-up keeps.
-use Prim.Native.Nat.{ℕ, ◌+◌, ◌-◌, ◌≤◌, ◌<◌, min}
+use Prim.Native.Nat.{ℕ, ◌+◌, ◌-◌, ◌≤◌, ◌<◌, min, zero-le}
 use native.Mathlib.Nat.{zero-add}
 use native.Mathlib.Omega.{arith}
 use mathlib.Core.Path.{◌≡◌, refl, ap, sym, ◌∙◌}
@@ -8,7 +8,9 @@ use mathlib.Core.List.{List, [], ◌∷◌, ◌++◌}
 use lib.ListN.{length, take, drop, length-take}
 use lib.Dec.{ltb}
 use borrow.Author.Tests.{le-leb, lt-leb, ltb-false}
-use Rattle.protocol.specs.declared.Answer.TheVariants.{Accepted, Refused}
+use Rattle.protocol.specs.Answers.{Accepted, Refused}
+use Rattle.std.specs.Prelude.{Result, Ok, Err, IfOk}
+use Rattle.protocol.specs.declared.SocksError.{SocksError}
 use Rattle.protocol.specs.declared.SocksError.TheVariants.{CredentialTooLong}
 use Rattle.protocol.specs.declared.Bound.{Bound}
 use Rattle.protocol.specs.Requests.{kind_of}
@@ -21,17 +23,17 @@ use Rattle.proxy_spec.specs.End.{Setup}
 use Rattle.proxy_spec.specs.Side.{talk_at, server}
 use Rattle.proxy_spec.specs.Shortest.{wants_by}
 use Rattle.proxy_decisions.specs.decision.Due.{session_at}
-use Rattle.proxy_replies.specs.declared.stages.Ending.{Ending}
 use Rattle.proxy_replies.specs.declared.stages.Said.{Said}
 use Rattle.proxy_replies.specs.stages.Told.{end_at, has_destination}
 use Rattle.proxy_decisions.specs.destination.Last.{target_as}
 use Rattle.buffers.proofs.write.Parts.{take_min}
 use Rattle.proxy_replies.specs.stages.Answers as stages
-use Rattle.proxy_delivery.specs.declared.delivery.Received.{Received}
+use Rattle.proxy_delivery.specs.declared.piece.Taken.{Taken}
 use Rattle.proxy_delivery.specs.piece.Pieces.{TakeResult}
 use Rattle.proxy_delivery.specs.delivery.Received.{Waits, Ways, settled, short, none, taken, ReceiveResult}
 use Rattle.proxy_session.specs.declared.Credential.{Credential}
 use Rattle.proxy_session.specs.declared.Server.{Server}
+use Rattle.proxy_session.specs.declared.Delivered.{Delivered}
 use Rattle.proxy_session.specs.declared.Ended.{Ended}
 use Rattle.proxy_session.specs.declared.SetUp.{SetUp}
 use Rattle.proxy_session.specs.Server.{credential_of, text_of, setup_of, side_of, held_bytes, asked_for, view, at_stage, destination, wants, fresh}
@@ -69,40 +71,48 @@ module _ (held : ℕ) (hold piece : List ℕ) (x : Bound) (a : Bool) (u p : Cred
   abbrev c : Setup
   c = record { authenticates = a; user = text_of u; password = text_of p }
 
-  abbrev went : Received → List ℕ → List ℕ → Call
-  went r hold' out' =
-      record { answer = r.answer; session = server_of r.taken.stage r.taken.held hold' r.taken.bound a u p; used = r.taken.used; sent = r.taken.sent; output = out' }
+  abbrev went : Stage → Result Taken SocksError → List ℕ → List ℕ → Call
+  went stage (Ok t) hold' out' = record { answer = Accepted; session = server_of t.stage t.held hold' t.bound a u p; used = t.used; sent = t.sent; output = out' }
+  went stage (Err e) hold' out' = record { answer = Refused e; session = server_of stage held hold x a u p; used = 0; sent = 0; output = out' }
 
-  moves_as : (f : Field) {r : Received} {hold' out' : List ℕ} → r.answer ≡ Accepted → TakeResult c f (take held hold) piece hold x out r.taken hold' out'
-      → moves (server_of (Awaiting f) held hold x a u p) (feed (server c) (talk_at c f) (take held hold ++ piece)) out ≡ went r hold' out'
+  moves_as : (f : Field) (t : Taken) {hold' out' : List ℕ} → TakeResult c f (take held hold) piece hold x out t hold' out'
+      → moves (server_of (Awaiting f) held hold x a u p) (feed (server c) (talk_at c f) (take held hold ++ piece)) out ≡ went (Awaiting f) (Ok t) hold' out'
   unfolding overwrite
-  moves_as f {r} {hold'} {out'} q w =
+  moves_as f t {hold'} {out'} w =
       let k = w.keeps in
       let s = w.said in
       let o : out' ≡ s ++ drop (length s) out = w.wrote.bytes ∙ ap (λ (n : ℕ). s ++ drop n out) (zero-add (length s)) in
-      let n : r.taken.sent ≡ length s = w.wrote.place ∙ zero-add (length s) in
+      let n : t.sent ≡ length s = w.wrote.place ∙ zero-add (length s) in
       ap (λ g. moves (server_of (Awaiting f) held hold x a u p) g out) w.whole
       ∙ (λ i. record {
-        answer = sym q i;
+        answer = Accepted;
         session = record { stage = sym k.staged i; held = sym k.counts i; hold = sym k.holds i; bound = sym k.bounds i; authenticates = a; user = u; password = p };
         used = sym k.uses i;
         sent = sym n i;
         output = sym o i;
       })
 
-  goes : (stage : Stage) {r : Received} {hold' out' : List ℕ} → Ways stage held c hold piece x out r hold' out' → deliver (server_of stage held hold x a u p) piece out ≡ went r hold' out'
+  goes : (stage : Stage) {r : Result Taken SocksError} {hold' out' : List ℕ} → Ways stage held c hold piece x out r hold' out'
+      → deliver (server_of stage held hold x a u p) piece out ≡ went stage r hold' out'
   unfolding deliver onward
-  goes stage (settled n q w o) = rw (q, w, o, is_over_lem stage _ (take held hold) n)
-  goes stage (short n h q w o) = rw (q, w, o, waits_on stage _ (take held hold) n, lt-leb 262 (length out) h)
+  goes stage (settled n q w o) = rw (q, o, is_over_lem stage _ (take held hold) n)
+  goes stage (short n h q w o) = rw (q, o, waits_on stage _ (take held hold) n, lt-leb 262 (length out) h)
   goes stage (none n h z q w o) = rw (q, w, o, waits_on stage _ (take held hold) n, le-leb 262 (length out) h) (takes_none (server_of stage held hold x a u p) piece out z)
-  goes stage (taken f s h z q w) = rw (s, le-leb 262 (length out) h) (takes_more (server_of (Awaiting f) held hold x a u p) piece out z ∙ moves_as f q w)
+  goes stage (taken f t s h z q w) = rw (q, s, le-leb 262 (length out) h) (takes_more (server_of (Awaiting f) held hold x a u p) piece out z ∙ moves_as f t w)
 
-pub delivers : (s : Server) (piece out : List ℕ) {r : Received} {hold' out' : List ℕ} → ReceiveResult s.stage s.held (setup_of s) s.hold piece s.bound out r hold' out'
-    → DeliverResult (deliver s piece out) piece
-    (record { answer = r.answer; used = r.taken.used; sent = r.taken.sent; server = server_of r.taken.stage r.taken.held hold' r.taken.bound s.authenticates s.user s.password }) out'
-delivers s piece out v =
-    let g = goes s.held s.hold piece s.bound s.authenticates s.user s.password out s.stage v.way in
-    record { returned = ap delivered (sym g); output = ap (λ (d : Call). d.output) (sym g); inside = v.inside; within = v.within }
+-- what the code then answers with
+abbrev pub delivered_by : Server → Result Taken SocksError → List ℕ → Delivered
+delivered_by s (Ok t) hold' = record { answer = Accepted; used = t.used; sent = t.sent; server = server_of t.stage t.held hold' t.bound s.authenticates s.user s.password }
+delivered_by s (Err e) hold' = record { answer = Refused e; used = 0; sent = 0; server = s }
+
+pub delivers : (s : Server) (piece out : List ℕ) {r : Result Taken SocksError} {hold' out' : List ℕ} → ReceiveResult s.stage s.held (setup_of s) s.hold piece s.bound out r hold' out'
+    → DeliverResult (deliver s piece out) piece (delivered_by s r hold') out'
+delivers s piece out {r} {hold'} {out'} v = go r (goes s.held s.hold piece s.bound s.authenticates s.user s.password out s.stage v.way) v.within v.inside
+  where
+    go : (r : Result Taken SocksError) → deliver s piece out ≡ went s.held s.hold piece s.bound s.authenticates s.user s.password out s.stage r hold' out' → IfOk r (λ t. t.used ≤ length piece) → IfOk r (λ t. t.sent ≤ length out')
+        → DeliverResult (deliver s piece out) piece (delivered_by s r hold') out'
+    go (Ok t) g w i = record { returned = ap delivered (sym g); output = ap (λ (d : Call). d.output) (sym g); inside = i; within = w }
+    go (Err e) g w i = record { returned = ap delivered (sym g); output = ap (λ (d : Call). d.output) (sym g); inside = zero-le; within = zero-le }
 
 -- ---- the caller's answer, and the end of the stream
 
@@ -112,12 +122,15 @@ unfolding answer
 answers s status x out {r} v =
     record { returned = (λ i. record { answer = (v.returned i).answer; sent = (v.returned i).sent; server = at_stage (v.returned i).stage s }); output = v.output; inside = v.inside }
 
-pub ends_as : (s : Server) {r : Ending} → r ≡ end_at s.stage s.held
-    → ◌≡◌ {A = Ended} (record { answer = r.answer; server = server_of r.stage r.held s.hold s.bound s.authenticates s.user s.password }) (ended_by (end s))
+abbrev pub ended_as : Server → Result Stage SocksError → Ended
+ended_as s (Ok t) = record { answer = Accepted; server = server_of t 0 s.hold s.bound s.authenticates s.user s.password }
+ended_as s (Err e) = record { answer = Refused e; server = s }
+
+pub ends : (s : Server) {r : Result Stage SocksError} → r ≡ end_at s.stage → ended_as s r ≡ ended_by (end s)
 unfolding end
-ends_as s {r} q = rw q (go s.stage refl)
+ends s {r} q = rw q (go s.stage refl)
   where
-    go : (t : Stage) → s.stage ≡ t → ◌≡◌ {A = Ended} (record { answer = (end_at t s.held).answer; server = server_of (end_at t s.held).stage (end_at t s.held).held s.hold s.bound s.authenticates s.user s.password }) (ended_by (end s))
+    go : (t : Stage) → s.stage ≡ t → ended_as s (end_at t) ≡ ended_by (end s)
     go (Awaiting f) e = rw e
     go (Asked v) e = rw e
     go (Open v) e = rw e
@@ -153,21 +166,12 @@ short_enough a user password t e = go (ltb 255 (length user)) (ltb 255 (length p
 pub no_destination : (s : Server) {b : Bool} → b ≡ has_destination s.stage → b ≡ false → target_as unbound ≡ destination s
 no_destination s e q = rw (← e, q)
 
-pub destination_is : (s : Server) {b : Bool} {n : ℕ} → b ≡ has_destination s.stage → b ≡ true → n ≡ min s.held 1014 → length s.hold ≡ 1014 → target_as (endpoint (kind_of s.bound.kind (take n s.hold)) s.bound.port) ≡ destination s
-destination_is s {b} {n} e q m l =
-    let h : take n s.hold ≡ take s.held s.hold = rw (m, ← l) (take_min s.held s.hold) in
-    rw (← e, q, h)
+pub destination_is : (s : Server) {b : Bool} {h : List ℕ} → b ≡ has_destination s.stage → b ≡ true → h ≡ held_bytes s → target_as (endpoint (kind_of s.bound.kind h) s.bound.port) ≡ destination s
+destination_is s e q h = rw (← e, q, h)
 
--- ---- what is lent of a credential's array and of the hold
-
-pub inside : (n k : ℕ) (l : List ℕ) → n ≡ k → k < 256 → length l ≡ 255 → n ≤ length l
-inside n k l e o q = omega arith
-
-pub held_inside : (n k : ℕ) (l : List ℕ) → n ≡ min k 1014 → length l ≡ 1014 → n ≤ length l
-held_inside n k l e q = omega arith
-
-pub few : (n : ℕ) (l : List ℕ) → length l ≡ 255 → length (take n l) ≤ 255
-few n l q = omega (arith, length-take n l)
+-- of the hold as much as there is
+pub held_is : (s : Server) {n : ℕ} → n ≡ min s.held 1014 → length s.hold ≡ 1014 → take n s.hold ≡ held_bytes s
+held_is s q l = rw (q, ← l) (take_min s.held s.hold)
 
 -- ---- what it wants
 
@@ -178,9 +182,5 @@ wants_any c (Asked v) x y h = refl
 wants_any c (Open v) x y h = refl
 wants_any c (Failed e) x y h = refl
 
-pub wants_is : (s : Server) (k m n r : ℕ) → length s.hold ≡ 1014 → k ≡ s.user.len → m ≡ s.password.len → n ≡ min s.held 1014
-    → r ≡ wants_by (record { authenticates = s.authenticates; user = take k s.user.bytes; password = take m s.password.bytes }) (session_at s.stage unbound (take n s.hold))
-    → r ≡ wants s
-wants_is s k m n r l u p h q =
-    let t : take n s.hold ≡ held_bytes s = ap (λ (i : ℕ). take i s.hold) (h ∙ ap (min s.held) (sym l)) ∙ take_min s.held s.hold in
-    q ∙ rw (u, p, t) (wants_any (setup_of s) s.stage unbound (asked_for s) (held_bytes s))
+pub wants_is : (s : Server) {r : ℕ} → r ≡ wants_by (setup_of s) (session_at s.stage unbound (held_bytes s)) → r ≡ wants s
+wants_is s q = q ∙ wants_any (setup_of s) s.stage unbound (asked_for s) (held_bytes s)

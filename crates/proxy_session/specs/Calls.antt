@@ -2,8 +2,7 @@
 use Rattle.std.specs.Prelude.{ℕ, ◌-◌, ◌≤◌, ◌≡◌, Bool, false, cond, ◌&&◌, ◌||◌, List, [], ◌∷◌, ◌++◌, length, drop, leb, ltb}
 use Rattle.protocol.specs.declared.SocksError.{SocksError}
 use Rattle.protocol.specs.declared.SocksError.TheVariants.{ShortOutput, CredentialTooLong, UnexpectedEof, Settled}
-use Rattle.protocol.specs.declared.Answer as code
-use Rattle.protocol.specs.declared.Answer.TheVariants.{Accepted, Refused}
+use Rattle.protocol.specs.Answers as code
 use Rattle.protocol.specs.Bound.{Endpoint}
 use Rattle.proxy_spec.specs.declared.Field.{Field}
 use Rattle.proxy_spec.specs.declared.Field.TheVariants.{First}
@@ -23,7 +22,7 @@ abbrev pub Call : Type 0
 Call = Answer Server code.Answer
 
 abbrev pub refusal : SocksError → Server → List ℕ → Call
-refusal e s out = record { answer = Refused e; session = s; used = 0; sent = 0; output = out }
+refusal e s out = record { answer = code.Refused e; session = s; used = 0; sent = 0; output = out }
 
 -- ---- what a function of the code returns and leaves in the output, as a call says; with the bounds that a caller slices by
 
@@ -56,9 +55,9 @@ too_long authenticates user password = authenticates && (ltb 255 (length user) |
 unfoldable pub set_up : Bool → List ℕ → List ℕ → SetUp
 set_up authenticates user password =
     cond (too_long authenticates user password)
-    (record { answer = Refused CredentialTooLong; server = fresh (Failed CredentialTooLong) false (credential_of []) (credential_of []) })
+    (record { answer = code.Refused CredentialTooLong; server = fresh (Failed CredentialTooLong) false (credential_of []) (credential_of []) })
     (record {
-      answer = Accepted;
+      answer = code.Accepted;
       server = fresh (Awaiting First) authenticates (credential_of (cond authenticates user [])) (credential_of (cond authenticates password []));
     })
 
@@ -68,7 +67,7 @@ set_up authenticates user password =
 abbrev pub moves : Server → Fed Field Asked SocksError → List ℕ → Call
 moves s f out =
     record {
-      answer = Accepted;
+      answer = code.Accepted;
       session = packed s f.session;
       used = reached f - length (held_by (view s));
       sent = length f.sent;
@@ -77,7 +76,7 @@ moves s f out =
 
 -- an empty piece changes nothing
 abbrev pub takes : Server → List ℕ → List ℕ → Call
-takes s [] out = record { answer = Accepted; session = s; used = 0; sent = 0; output = out }
+takes s [] out = record { answer = code.Accepted; session = s; used = 0; sent = 0; output = out }
 takes s (b ∷ bs) out = moves s (onward (side_of s) (view s) (b ∷ bs)) out
 
 unfoldable pub deliver : Server → List ℕ → List ℕ → Call
@@ -95,4 +94,4 @@ answer s status x out = answer_by s (answer_at s.stage status x out)
 -- ---- End of stream: 9 while it waits, else 16
 
 unfoldable pub end : Server → Call
-end s = cond (is_over (view s)) (refusal Settled s []) (record { answer = Accepted; session = packed s (ended (failed UnexpectedEof)); used = 0; sent = 0; output = [] })
+end s = cond (is_over (view s)) (refusal Settled s []) (record { answer = code.Accepted; session = packed s (ended (failed UnexpectedEof)); used = 0; sent = 0; output = [] })

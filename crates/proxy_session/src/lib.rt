@@ -4,20 +4,22 @@
 
 ghost use Rattle.std.specs.Prelude.{◌≡◌, ◌≤◌, length};
 ghost use Rattle.protocol.specs.Bound.{unbound};
+ghost use Rattle.proxy_decisions.specs.wants.Counted.{Counted};
 ghost use Rattle.proxy_decisions.specs.destination.Last.{target_as};
 ghost use Rattle.proxy_spec.specs.End.{endpoint_of};
-ghost use Rattle.proxy_session.specs.Server.{credential_of, fresh, outcome, destination, wants};
+ghost use Rattle.proxy_session.specs.Server.{credential_of, text_of, setup_of, held_bytes, fresh, outcome, destination, wants};
 ghost use Rattle.proxy_session.specs.Calls.{set_up, deliver, DeliverResult, answer, AnswerResult, end, ended_by};
 
 use buffers::fields::credentials_too_long;
-use buffers::write::{copy, least, wide};
-use protocol::{AddressKind, Answer, Bound, CREDENTIAL, NAME_V4, Record, SocksError};
+use buffers::write::copy;
+use protocol::{AddressKind, Bound, CREDENTIAL, NAME_V4, Record, SocksError};
+use proxy_decisions::credentials::Credentials;
 use proxy_decisions::destination::{Target, as_target};
 use proxy_delivery::delivery::receive;
 use proxy_replies::stages::{Outcome, has_destination};
 use proxy_spec::{Field, Stage};
 
-// A user or a password.
+// A user or a password. The array has its count beside it: there is no heap, and the C form has both.
 #[derive(Clone, Copy)]
 pub struct Credential {
     pub len: u8,
@@ -37,43 +39,56 @@ pub struct Server {
     pub password: Credential,
 }
 
+// 01: each step takes the value and hands it back, with its answer beside it.
 #[derive(Clone, Copy)]
 pub struct SetUp {
-    pub answer: Answer,
+    pub answer: Result<(), SocksError>,
     pub server: Server,
 }
 
+// as `SetUp`
 #[derive(Clone, Copy)]
 pub struct Delivered {
-    pub answer: Answer,
+    pub answer: Result<(), SocksError>,
     pub used: usize,
     pub sent: usize,
     pub server: Server,
 }
 
+// as `SetUp`
 #[derive(Clone, Copy)]
 pub struct Answered {
-    pub answer: Answer,
+    pub answer: Result<(), SocksError>,
     pub sent: usize,
     pub server: Server,
 }
 
+// as `SetUp`
 #[derive(Clone, Copy)]
 pub struct Ended {
-    pub answer: Answer,
+    pub answer: Result<(), SocksError>,
     pub server: Server,
 }
 
-// A text of at most 255 bytes at the start of an array of zeros.
-fn credential_of(text: &[u8]) -> Credential
-    requires { length text.now ≤ 255 }
-    ensures { result ≡ credential_of text.now }
-{
-    let mut bytes = [0u8; CREDENTIAL];
-    copy(&mut bytes, 0, text);
-    Credential {
-        len: (text.len() % 256) as u8,
-        bytes: bytes,
+impl Credential {
+    // A text of at most 255 bytes at the start of an array of zeros.
+    fn new(text: &[u8]) -> Credential
+        requires { length text.now ≤ 255 }
+        ensures { result ≡ credential_of text.now }
+    {
+        let mut bytes = [0; CREDENTIAL];
+        copy(&mut bytes, 0, text);
+        Credential {
+            len: text.len() as u8,
+            bytes,
+        }
+    }
+
+    fn text(&self) -> &[u8]
+        ensures text { result.now ≡ text_of self.now }
+        ensures counted { length result.now ≤ 255 }
+    {
+        &self.bytes[..usize::from(self.len)]
     }
 }
 
@@ -82,16 +97,16 @@ fn fresh(stage: Stage, authenticates: bool, user: Credential, password: Credenti
     ensures { result ≡ fresh stage authenticates user password }
 {
     Server {
-        stage: stage,
+        stage,
         held: 0,
-        hold: [0u8; NAME_V4],
+        hold: [0; NAME_V4],
         bound: Bound {
             kind: AddressKind::Ipv4,
             port: 0,
         },
-        authenticates: authenticates,
-        user: user,
-        password: password,
+        authenticates,
+        user,
+        password,
     }
 }
 
@@ -99,28 +114,26 @@ fn fresh(stage: Stage, authenticates: bool, user: Credential, password: Credenti
 pub fn set_up(authenticates: bool, user: &[u8], password: &[u8]) -> SetUp
     ensures { result ≡ set_up authenticates user.now password.now }
 {
-    let none = credential_of(&user[..0]);
+    let none = Credential::new(&[]);
     if credentials_too_long(authenticates, user, password) {
         let error = SocksError::CredentialTooLong;
         return SetUp {
-            answer: Answer::Refused(error),
+            answer: Err(error),
             server: fresh(Stage::Failed(error), false, none, none),
         };
     }
+    let stage = Stage::Awaiting(Field::First);
     if !authenticates {
         return SetUp {
-            answer: Answer::Accepted,
-            server: fresh(Stage::Awaiting(Field::First), false, none, none),
+            answer: Ok(()),
+            server: fresh(stage, false, none, none),
         };
     }
+    let user = Credential::new(user);
+    let password = Credential::new(password);
     SetUp {
-        answer: Answer::Accepted,
-        server: fresh(
-            Stage::Awaiting(Field::First),
-            true,
-            credential_of(user),
-            credential_of(password),
-        ),
+        answer: Ok(()),
+        server: fresh(stage, true, user, password),
     }
 }
 
@@ -131,53 +144,62 @@ pub fn no_target() -> Target
     Target {
         kind: AddressKind::Ipv4,
         len: 4,
-        bytes: [0u8; NAME_V4],
+        bytes: [0; NAME_V4],
         port: 0,
     }
 }
 
 impl Server {
+    fn credentials(&self) -> Credentials<'_>
+        ensures setup { result ≡ setup_of self.now }
+        ensures counted { Counted result }
+    {
+        Credentials {
+            authenticates: self.authenticates,
+            user: self.user.text(),
+            password: self.password.text(),
+        }
+    }
+
+    fn held_bytes(&self) -> &[u8]
+        ensures { result.now ≡ held_bytes self.now }
+    {
+        &self.hold[..self.held.min(NAME_V4)]
+    }
+
     // Takes a client's piece, and puts what is said at the output's start. Refused unless bytes are awaited, or if the output has less than 262
     // bytes.
     pub fn deliver(self, piece: &[u8], out: &mut [u8]) -> Delivered
         ensures { DeliverResult (deliver self piece.now out.old) piece.now result out.new }
     {
-        let stage = self.stage;
-        let bound = self.bound;
-        let user = self.user;
-        let password = self.password;
-        let user_bytes = user.bytes;
-        let password_bytes = password.bytes;
-        let n = wide(user.len);
-        let m = wide(password.len);
         let mut hold = self.hold;
-        let received = receive(
-            stage,
+        let credentials = self.credentials();
+        match receive(
+            self.stage,
             self.held,
-            self.authenticates,
-            &user_bytes[..n],
-            &password_bytes[..m],
+            &credentials,
             &mut hold,
             piece,
-            bound,
+            self.bound,
             out,
-        );
-        let answer = received.answer;
-        let taken = received.taken;
-        let next = taken.stage;
-        let after = taken.bound;
-        Delivered {
-            answer: answer,
-            used: taken.used,
-            sent: taken.sent,
-            server: Server {
-                stage: next,
-                held: taken.held,
-                hold: hold,
-                bound: after,
-                authenticates: self.authenticates,
-                user: user,
-                password: password,
+        ) {
+            Ok(taken) => Delivered {
+                answer: Ok(()),
+                used: taken.used,
+                sent: taken.sent,
+                server: Server {
+                    stage: taken.stage,
+                    held: taken.held,
+                    hold,
+                    bound: taken.bound,
+                    ..self
+                },
+            },
+            Err(error) => Delivered {
+                answer: Err(error),
+                used: 0,
+                sent: 0,
+                server: self,
             },
         }
     }
@@ -187,25 +209,13 @@ impl Server {
     pub fn answer(self, status: u8, bound: Record, port: u16, out: &mut [u8]) -> Answered
         ensures { AnswerResult (answer self status (endpoint_of bound port) out.old) result out.new }
     {
-        let stage = self.stage;
-        let said = proxy_replies::stages::answer(stage, status, bound, port, out);
-        let answer = said.answer;
-        let next = said.stage;
-        let hold = self.hold;
-        let kept = self.bound;
-        let user = self.user;
-        let password = self.password;
+        let said = proxy_replies::stages::answer(self.stage, status, bound, port, out);
         Answered {
-            answer: answer,
+            answer: said.answer,
             sent: said.sent,
             server: Server {
-                stage: next,
-                held: self.held,
-                hold: hold,
-                bound: kept,
-                authenticates: self.authenticates,
-                user: user,
-                password: password,
+                stage: said.stage,
+                ..self
             },
         }
     }
@@ -214,24 +224,18 @@ impl Server {
     pub fn end(self) -> Ended
         ensures { result ≡ ended_by (end self) }
     {
-        let stage = self.stage;
-        let ending = proxy_replies::stages::end(stage, self.held);
-        let answer = ending.answer;
-        let last = ending.stage;
-        let hold = self.hold;
-        let bound = self.bound;
-        let user = self.user;
-        let password = self.password;
-        Ended {
-            answer: answer,
-            server: Server {
-                stage: last,
-                held: ending.held,
-                hold: hold,
-                bound: bound,
-                authenticates: self.authenticates,
-                user: user,
-                password: password,
+        match proxy_replies::stages::end(self.stage) {
+            Ok(stage) => Ended {
+                answer: Ok(()),
+                server: Server {
+                    stage,
+                    held: 0,
+                    ..self
+                },
+            },
+            Err(error) => Ended {
+                answer: Err(error),
+                server: self,
             },
         }
     }
@@ -240,22 +244,18 @@ impl Server {
     pub fn outcome(self) -> Outcome
         ensures { result ≡ outcome self }
     {
-        let stage = self.stage;
-        proxy_replies::stages::outcome_at(stage)
+        proxy_replies::stages::outcome_at(self.stage)
     }
 
     // The destination that was handed out; of an end that neither awaits the caller's answer nor is open IPv4 zeros and port 0.
     pub fn destination(self) -> Target
         ensures { result ≡ destination self }
     {
-        let stage = self.stage;
-        let hold = self.hold;
-        let bound = self.bound;
-        if !has_destination(stage) {
-            return no_target();
+        if has_destination(self.stage) {
+            as_target(self.bound, self.held_bytes())
+        } else {
+            no_target()
         }
-        let n = least(self.held, NAME_V4);
-        as_target(bound, &hold[..n])
     }
 
     // How many bytes may be read without reading past the client's requests: as many as the shortest stream that leads to the question has or, where none
@@ -263,21 +263,6 @@ impl Server {
     pub fn wants(self) -> usize
         ensures { result ≡ wants self }
     {
-        let stage = self.stage;
-        let hold = self.hold;
-        let user = self.user;
-        let password = self.password;
-        let user_bytes = user.bytes;
-        let password_bytes = password.bytes;
-        let k = wide(user.len);
-        let m = wide(password.len);
-        let n = least(self.held, NAME_V4);
-        proxy_decisions::wants::wants(
-            stage,
-            self.authenticates,
-            &user_bytes[..k],
-            &password_bytes[..m],
-            &hold[..n],
-        )
+        proxy_decisions::wants::wants(self.stage, &self.credentials(), self.held_bytes())
     }
 }

@@ -5,6 +5,7 @@
 use protocol::{SocksError, Version};
 
 // What a v4 request has between its version and its user id: CD, DSTPORT and DSTIP.
+// Four fields, since an array would be a list of any length in `ip_of`.
 #[derive(Clone, Copy)]
 pub struct Ports {
     pub command: u8,

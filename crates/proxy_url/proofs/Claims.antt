@@ -7,7 +7,7 @@ use mathlib.Core.Bool.{false}
 use mathlib.Core.List.{List}
 use lib.Dec.{lit<}
 use lib.ListN.{length, take, drop, replicate}
-use Rattle.protocol.specs.declared.Answer.TheVariants.{Accepted}
+use Rattle.protocol.specs.Answers.{Accepted}
 use Rattle.protocol.specs.Numbers.{answer_number}
 use Rattle.proxy_url_spec.specs.Grammar.{Value, Line}
 use Rattle.proxy_url_spec.specs.Place.{GoesOn}

@@ -85,9 +85,3 @@ inside_many F mark h zero = inside_word (mark ∷ []) []
 inside_many F mark h (suc k) =
     inside_or (λ u. 0) (word (mark ∷ []) []) (map consed (seq F (always (many F mark k)))) (inside_word (mark ∷ []) [])
     (inside_map (λ u. 0) consed (seq F (always (many F mark k))) (inside_both F (always (many F mark k)) h (λ v. inside_many F mark h k)))
-
--- the same of a struct that tells what was read
-module _ {A R : Type 0} (size : A → ℕ) (coded : Read A → R) (at next : R → ℕ) (on : (v : A) (n : ℕ) → (at (coded (reads v n)) ≡ size v) × (next (coded (reads v n)) ≡ n)) (off : (n : ℕ) → (at (coded (dies n)) ≡ 0) × (next (coded (dies n)) ≡ n)) where
-  pub told_inside : (x : Read A) {l : ℕ} → Bounded size x l → {r : R} → r ≡ coded x → (at r ≤ next r) × (next r ≤ l)
-  told_inside (reads v n) h e = let (p, q) = on v n in rw e (omega arith, omega arith)
-  told_inside (dies n) h e = let (p, q) = off n in rw e (omega arith, omega arith)

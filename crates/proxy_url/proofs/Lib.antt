@@ -1,6 +1,6 @@
 pub mod Readers
 pub mod Inside
-pub mod Told
+pub mod Coded
 pub mod Parts
 pub mod Lines
 pub mod Promise

@@ -1,8 +1,7 @@
 -- F-9: what the call that reads a line answers, for any line.
 use Rattle.std.specs.Prelude.{ℕ, false, List, length}
 use Rattle.protocol.specs.declared.SocksError.TheVariants.{BadLine}
-use Rattle.protocol.specs.declared.Answer.{Answer}
-use Rattle.protocol.specs.declared.Answer.TheVariants.{Accepted, Refused}
+use Rattle.protocol.specs.Answers.{Answer, Accepted, Refused}
 use Rattle.protocol.specs.declared.Version.TheVariants.{V4}
 use Rattle.protocol.specs.Bytes.{padded}
 use Rattle.proxy_url_spec.specs.Grammar.{Value}

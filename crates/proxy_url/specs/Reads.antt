@@ -1,7 +1,7 @@
 -- F-9's promise: a line is accepted with a value exactly if the grammar has it with that value; otherwise the answer is 24, with its place.
 use Rattle.std.specs.Prelude.{ℕ, ◌-◌, ◌≤◌, ◌≡◌, ◌↔◌, Bool, true, false, List, [], ◌∷◌, take, drop, replicate}
 use Rattle.std.proofs.Math.Option.{Option, none, some}
-use Rattle.protocol.specs.declared.Answer.TheVariants.{Accepted}
+use Rattle.protocol.specs.Answers.{Accepted}
 use Rattle.protocol.specs.declared.Version.TheVariants.{V4}
 use Rattle.protocol.specs.Numbers.{answer_number}
 use Rattle.protocol.specs.Opening.{◌↣◌, Answers}

@@ -1,139 +1,76 @@
 // F-9: a user or a password, unescaped, up to the mark behind it.
-ghost use Rattle.std.specs.Prelude.{◌≡◌, false};
-ghost use Rattle.proxy_url_spec.specs.Reading.{unreserved, escaped_of, credential_of};
-ghost use Rattle.proxy_url.specs.Coded.{zeros, escaped_coded, credential_coded};
+ghost use Rattle.std.specs.Prelude.{◌≡◌};
+ghost use Rattle.proxy_url_spec.specs.Reading.{mapped, unreserved, escaped_of, credential_of};
+ghost use Rattle.proxy_url.specs.Coded.{credential_coded};
 
 use crate::texts::byte_at;
 use address_text::digits::hex_value;
 use protocol::CREDENTIAL;
 
-// A byte and the next place, or the place at which it dies.
+// The first len bytes, and zeros behind them.
 #[derive(Clone, Copy)]
-pub struct EscapedRead {
-    pub found: bool,
-    pub next: usize,
-    pub value: u8,
-}
-
-// The first len bytes and the next place, or the place at which it dies.
-#[derive(Clone, Copy)]
-pub struct CredentialRead {
-    pub found: bool,
-    pub next: usize,
+pub struct Credential {
     pub len: usize,
     pub bytes: [u8; CREDENTIAL],
 }
 
 // A letter, a digit, `-`, `.`, `_` or `~`.
+#[tactic(auto, unfolding(proxy_url_spec::specs::Reading::unreserved))]
 fn is_unreserved(b: u8) -> bool
     ensures { result ≡ unreserved b }
 {
-    if b < 0x30 {
-        return b == 0x2D || b == 0x2E;
-    }
-    if b < 0x3A {
-        return true;
-    }
-    if b < 0x41 {
-        return false;
-    }
-    if b < 0x5B {
-        return true;
-    }
-    if b < 0x61 {
-        return b == 0x5F;
-    }
-    if b < 0x7B {
-        return true;
-    }
-    b == 0x7E
+    b.is_ascii_alphanumeric() || b == b'-' || b == b'.' || b == b'_' || b == b'~'
 }
 
-fn no_byte(next: usize) -> EscapedRead
-    ensures { result ≡ record { found = false; next = next; value = 0 } }
-{
-    EscapedRead {
-        found: false,
-        next,
-        value: 0,
-    }
-}
-
-// A byte as it is, or as `%` and two hexadecimal digits.
-fn read_escaped(text: &[u8]) -> EscapedRead
-    ensures { result ≡ escaped_coded (escaped_of text.now) }
+// A byte as it is, or as `%` and two hexadecimal digits, and the next place; or the place at which it dies.
+fn read_escaped(text: &[u8]) -> Result<(u8, usize), usize>
+    ensures { result ≡ escaped_of text.now }
 {
     let first = byte_at(text, 0);
     if is_unreserved(first) {
-        return EscapedRead {
-            found: true,
-            next: 1,
-            value: first,
-        };
+        return Ok((first, 1));
     }
     if first != b'%' {
-        return no_byte(0);
+        return Err(0);
     }
     let high = hex_value(byte_at(text, 1));
     if 16 <= high {
-        return no_byte(1);
+        return Err(1);
     }
     let low = hex_value(byte_at(text, 2));
     if 16 <= low {
-        return no_byte(2);
+        return Err(2);
     }
-    EscapedRead {
-        found: true,
-        next: 3,
-        value: (high * 16 + low) as u8,
-    }
+    Ok(((high * 16 + low) as u8, 3))
 }
 
-fn no_credential(next: usize) -> CredentialRead
-    ensures { result ≡ record { found = false; next = next; len = 0; bytes = zeros } }
-{
-    CredentialRead {
-        found: false,
-        next,
-        len: 0,
-        bytes: [0u8; CREDENTIAL],
-    }
-}
-
-// At most 255 bytes, and the mark, which is `:` or `@`.
-pub fn read_credential(text: &[u8], mark: u8) -> CredentialRead
+// At most 255 bytes and the place behind the mark, which is `:` or `@`; or the place at which it dies.
+pub fn read_credential(text: &[u8], mark: u8) -> Result<(Credential, usize), usize>
     requires { mark ≡ 0 → ⊥ }
-    ensures { result ≡ credential_coded (credential_of mark text.now) }
+    ensures { result ≡ mapped credential_coded (credential_of mark text.now) }
 {
     let mut bytes = [0u8; CREDENTIAL];
-    let mut len: usize = 0;
     let mut at: usize = 0;
-    while len < CREDENTIAL {
+    for len in 0..CREDENTIAL {
         if byte_at(text, at) == mark {
-            return CredentialRead {
-                found: true,
-                next: at + 1,
-                len,
-                bytes,
-            };
+            return Ok((Credential { len, bytes }, at + 1));
         }
-        let one = read_escaped(&text[at..]);
-        let next = at + one.next;
-        if one.found {
-            bytes[len] = one.value;
-            len += 1;
-            at = next;
-        } else {
-            return no_credential(next);
-        }
-    }
-    if byte_at(text, at) == mark {
-        return CredentialRead {
-            found: true,
-            next: at + 1,
-            len,
-            bytes,
+        // No `map_err`: that the sum fits is known here, and not in a closure.
+        let (value, next) = match read_escaped(&text[at..]) {
+            Ok(read) => read,
+            Err(n) => return Err(at + n),
         };
+        bytes[len] = value;
+        at += next;
     }
-    no_credential(at)
+    if byte_at(text, at) != mark {
+        return Err(at);
+    }
+    Ok((
+        Credential {
+            len: CREDENTIAL,
+            bytes,
+        },
+        at + 1,
+    ))
 }

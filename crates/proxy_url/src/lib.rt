@@ -11,21 +11,21 @@ mod schemes;
 mod texts;
 
 ghost use Rattle.std.specs.Prelude.{◌≡◌, ◌+◌, false, take, drop};
-ghost use Rattle.protocol.specs.declared.Answer.TheVariants as Answer;
-ghost use Rattle.protocol.specs.declared.Version.TheVariants as Version;
-ghost use Rattle.proxy_url.specs.Coded.{zeros};
-ghost use Rattle.proxy_url.specs.Calls.{bad_line, refused_at, read_of};
+ghost use Rattle.proxy_url_spec.specs.Reading.{line_of};
+ghost use Rattle.proxy_url.specs.Coded.{ending};
+ghost use Rattle.proxy_url.specs.Calls.{refused_at, accepted_as, read_of};
 
-use crate::rests::{RestRead, read_rest};
-use crate::schemes::{SchemeRead, read_scheme};
-use buffers::write::least;
-use protocol::{Answer, CREDENTIAL, SocksError, Version};
+use crate::credentials::Credential;
+use crate::rests::read_rest;
+use crate::schemes::read_scheme;
+use protocol::{CREDENTIAL, SocksError, Version};
 
 // What a line stands for: user and password are the first bytes of their arrays, and are given if proxy_auth; the host is a part of the
 // line. Or 24 and its place, beside which all else is empty.
+// One struct on a refusal too: claims speak of what is then empty (`proxy_url/Reads` `Empty`), and the C interface copies its fields.
 #[derive(Clone, Copy)]
 pub struct ProxyLine {
-    pub answer: Answer,
+    pub answer: Result<(), SocksError>,
     pub place: usize,
     pub version: Version,
     pub local_dns: bool,
@@ -39,11 +39,16 @@ pub struct ProxyLine {
     pub port: u16,
 }
 
+const NO_CREDENTIAL: Credential = Credential {
+    len: 0,
+    bytes: [0u8; CREDENTIAL],
+};
+
 fn refused(place: usize) -> ProxyLine
     ensures { result ≡ refused_at place }
 {
     ProxyLine {
-        answer: Answer::Refused(SocksError::BadLine),
+        answer: Err(SocksError::BadLine),
         place,
         version: Version::V4,
         local_dns: false,
@@ -58,51 +63,55 @@ fn refused(place: usize) -> ProxyLine
     }
 }
 
-fn accepted(scheme: SchemeRead, rest: RestRead, host_at: usize) -> ProxyLine
-    ensures { result ≡ record { answer = Answer.Accepted; place = 0; version = scheme.version; local_dns = scheme.local; proxy_auth = rest.auth; user = rest.user; user_len = rest.user_len; password = rest.password; password_len = rest.password_len; host_at = host_at; host_len = rest.len; port = rest.port } }
+// What a line stands for, or the place at which it dies.
+fn read_lawful(line: &[u8]) -> Result<ProxyLine, usize>
+    ensures { result ≡ ending accepted_as (line_of line.now) }
 {
-    let user = rest.user;
-    let password = rest.password;
-    let version = scheme.version;
-    ProxyLine {
-        answer: Answer::Accepted,
+    let ((version, local_dns), at) = read_scheme(line)?;
+    // No `map_err`: that the sum fits is known here, and not in a closure.
+    let rest = match read_rest(version, &line[at..]) {
+        Ok(rest) => rest,
+        Err(n) => return Err(at + n),
+    };
+    let (user, password) = rest.credentials.unwrap_or((NO_CREDENTIAL, NO_CREDENTIAL));
+    let Credential {
+        len: user_len,
+        bytes: user,
+    } = user;
+    let Credential {
+        len: password_len,
+        bytes: password,
+    } = password;
+    let host = rest.endpoint.host;
+    Ok(ProxyLine {
+        answer: Ok(()),
         place: 0,
         version,
-        local_dns: scheme.local,
-        proxy_auth: rest.auth,
+        local_dns,
+        proxy_auth: rest.credentials.is_some(),
         user,
-        user_len: rest.user_len,
+        user_len,
         password,
-        password_len: rest.password_len,
-        host_at,
-        host_len: rest.len,
-        port: rest.port,
-    }
+        password_len,
+        host_at: at + host.at,
+        host_len: host.len,
+        port: rest.endpoint.port,
+    })
 }
 
 // A line of any bytes and length.
 pub fn read(line: &[u8]) -> ProxyLine
     ensures { result ≡ read_of line.now }
 {
-    let scheme = read_scheme(line);
-    let at = scheme.next;
-    if scheme.found {
-        let version = scheme.version;
-        let rest = read_rest(version, &line[at..]);
-        if rest.found {
-            return accepted(scheme, rest, at + rest.at);
-        }
-        return refused(at + rest.next);
-    }
-    refused(at)
+    read_lawful(line).unwrap_or_else(refused)
 }
 
 // The host of a line that was read: a part of it.
 pub fn host<'a>(line: &'a [u8], read: ProxyLine) -> &'a [u8]
     ensures { result.now ≡ take read.host_len (drop read.host_at line.now) }
 {
-    let from = least(read.host_at, line.len());
-    let n = least(read.host_len, line.len() - from);
+    let from = read.host_at.min(line.len());
+    let n = read.host_len.min(line.len() - from);
     let end = from + n;
     &line[from..end]
 }

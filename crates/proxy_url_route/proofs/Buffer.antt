@@ -7,7 +7,7 @@ use mathlib.Core.Bool.{false}
 use mathlib.Core.List.{List, [], ◌∷◌, ◌++◌, map, append_assoc}
 use lib.ListN.{length, take, drop, get_or, replicate, length-append, get_or-append}
 use lib.Seq.{take-take, take-append-le, take-append_seam, drop-append_seam, take-add, drop_at, length-take-le, get_or-take, get_or-drop, get_or-append-add}
-use Rattle.protocol.specs.declared.Port.TheVariants.{Given}
+use Rattle.protocol.specs.Answers.{Given}
 use Rattle.buffers.specs.write.Written.{overwrite}
 use Rattle.buffers.proofs.write.Laws.{length_overwrite}
 use Rattle.route_session.specs.plan.Plan.{proxy_of, proxies_of}

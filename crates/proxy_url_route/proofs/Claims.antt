@@ -10,9 +10,7 @@ use lib.Dec.{eqb, lit<}
 use lib.ListN.{length, take, drop, get_or, replicate}
 use borrow.Author.Tests.{eqb-true, eqb-false, ne_eqb}
 use Rattle.protocol.specs.declared.SocksError.{SocksError}
-use Rattle.protocol.specs.declared.Answer.{Answer}
-use Rattle.protocol.specs.declared.Answer.TheVariants.{Accepted, Refused}
-use Rattle.protocol.specs.declared.Port.{Port}
+use Rattle.protocol.specs.Answers.{Answer, Accepted, Refused, Port}
 use Rattle.protocol.specs.Numbers.{answer_number}
 use Rattle.protocol.proofs.Limits.{number_is}
 use Rattle.route_spec.specs.Route as route

@@ -9,7 +9,7 @@ use lib.ListN.{length, take, drop, get_or, set, replicate}
 use lib.Seq.{drop-cons, drop-length, take-suc, take-length, length-take-le, set_at}
 use borrow.Author.Tests.{eq-eqb, ne_eqb, le-ltb, lt-ltb}
 use Rattle.protocol.specs.declared.SocksError.TheVariants.{RouteLength, BadLine}
-use Rattle.protocol.specs.declared.Answer.TheVariants.{Accepted}
+use Rattle.protocol.specs.Answers.{Accepted}
 use Rattle.route_session.specs.declared.plan.Proxy.{Proxy}
 use Rattle.route_session.specs.plan.Plan.{no_proxy}
 use Rattle.proxy_url.specs.declared.ProxyLine.{ProxyLine}

@@ -11,8 +11,7 @@ use lib.ListN.{length, take, replicate}
 use lib.Seq.{take_at, drop_at}
 use borrow.Author.Tests.{eqb-true, eqb-false, ltb-true, ltb-false}
 use Rattle.protocol.specs.declared.SocksError.TheVariants.{RouteLength, BadLine}
-use Rattle.protocol.specs.declared.Answer.TheVariants.{Accepted}
-use Rattle.protocol.specs.declared.Port.{Port}
+use Rattle.protocol.specs.Answers.{Accepted, Port}
 use Rattle.protocol.specs.Numbers.{answer_number}
 use Rattle.protocol.specs.Opening.{Answers, refuse}
 use Rattle.protocol.proofs.Openings.{all_passed, checked}

@@ -1,9 +1,7 @@
 -- F-9's promise of a route from lines: 21 for no line or more than eight, else 24 with the number of the first line that is not lawful and the place in it, else the route that the lines stand for.
 use Rattle.std.specs.Prelude.{ℕ, suc, ◌+◌, ◌-◌, ◌*◌, ◌≤◌, ◌<◌, ◌≡◌, ◌⊎◌, false, length, take, drop, replicate, get_or}
 use mathlib.Core.List.{List, [], ◌∷◌, map, Memᴰ}
-use Rattle.protocol.specs.declared.Port.{Port}
-use Rattle.protocol.specs.declared.Port.TheVariants.{Given}
-use Rattle.protocol.specs.declared.Answer.TheVariants.{Accepted}
+use Rattle.protocol.specs.Answers.{Port, Given, Accepted}
 use Rattle.protocol.specs.Numbers.{answer_number}
 use Rattle.protocol.specs.Opening.{Condition, ◌↣◌, Answers}
 use Rattle.route_spec.specs.Route as route

@@ -4,7 +4,7 @@ ghost use Rattle.proxy_url.specs.Calls.{read_of};
 ghost use Rattle.proxy_url_route.specs.Calls.{fields_written, line_written, proxy_at};
 
 use buffers::write::copy;
-use protocol::{CREDENTIAL, Port};
+use protocol::CREDENTIAL;
 use proxy_url::{ProxyLine, host, read};
 use route_session::plan::{Part, Proxy};
 
@@ -23,7 +23,7 @@ fn proxy_at(read: ProxyLine, at: usize) -> Proxy
             from: at,
             len: read.host_len,
         },
-        port: Port::Given(read.port),
+        port: Some(read.port),
         proxy_auth: read.proxy_auth,
         optimistic: false,
         user: Part {

@@ -7,14 +7,13 @@ mod fields;
 mod lines;
 
 ghost use Rattle.std.specs.Prelude.{◌≡◌, ◌≤◌, length, replicate};
-ghost use Rattle.protocol.specs.declared.Answer.TheVariants as Answer;
 ghost use Rattle.route_session.specs.plan.Plan.{no_proxy};
 ghost use Rattle.proxy_url_route.specs.Lines.{split};
 ghost use Rattle.proxy_url_route.specs.Calls.{accepts, first_refused, refused_with, written_by, proxies_by, RouteResult, read_lines};
 
 use crate::fields::{FIELDS, put_line};
 use crate::lines::{line_at, mark_count};
-use protocol::{Answer, PROXIES, Port, SocksError, Version};
+use protocol::{PROXIES, SocksError, Version};
 use route_session::plan::{Part, Proxy};
 
 // What hosts and credentials of a route's proxies take: eight proxies, three fields each, of at most 255 bytes.
@@ -22,9 +21,10 @@ pub const ROUTE_TEXT: usize = PROXIES * FIELDS;
 
 // The proxies of a route and their count, as the route's opening takes them with the buffer as its text. Or a refusal, beside which
 // there are none: with 24 the line's number, counted from 1, and the place in it.
+// One struct on a refusal too: the claim speaks of what is then left (`proxy_url_route/RoutesRead`).
 #[derive(Clone, Copy)]
 pub struct RouteLines {
-    pub answer: Answer,
+    pub answer: Result<(), SocksError>,
     pub line: usize,
     pub place: usize,
     pub count: usize,
@@ -44,7 +44,7 @@ fn no_proxies() -> [Proxy; PROXIES]
     let none = Proxy {
         version: Version::V4,
         host: Part { from: 0, len: 0 },
-        port: Port::Missing,
+        port: None,
         proxy_auth: false,
         optimistic: false,
         user: Part { from: 0, len: 0 },
@@ -57,7 +57,7 @@ fn refuse(error: SocksError, line: usize, place: usize) -> RouteLines
     ensures { result ≡ refused_with error line place }
 {
     RouteLines {
-        answer: Answer::Refused(error),
+        answer: Err(error),
         line,
         place,
         count: 0,
@@ -65,12 +65,12 @@ fn refuse(error: SocksError, line: usize, place: usize) -> RouteLines
     }
 }
 
-fn is_accepted(answer: Answer) -> bool
+fn is_accepted(answer: Result<(), SocksError>) -> bool
     ensures { result ≡ accepts answer }
 {
     match answer {
-        Answer::Accepted => true,
-        Answer::Refused(error) => false,
+        Ok(()) => true,
+        Err(error) => false,
     }
 }
 
@@ -127,7 +127,7 @@ pub fn read(text: &[u8], buffer: &mut [u8; ROUTE_TEXT]) -> RouteLines
         return refuse(SocksError::BadLine, refused.line, refused.place);
     }
     RouteLines {
-        answer: Answer::Accepted,
+        answer: Ok(()),
         line: 0,
         place: 0,
         count,

@@ -1,12 +1,15 @@
 -- F-9: a user or a password is read as the grammar has it, up to the mark behind it.
-use Prim.Native.Nat.{ℕ, ◌+◌, ◌*◌}
+use Prim.Native.Nat.{ℕ, ◌+◌, ◌*◌, ◌≤◌}
 use native.Mathlib.Omega.{arith}
 use mathlib.Core.Path.{◌≡◌, refl, sym, ap, ◌∙◌}
-use mathlib.Core.Bool.{Bool, true, false, cond, ◌||◌, false≢true}
+use mathlib.Core.Logic.{◌⊎◌, inl, inr}
+use mathlib.Core.Bool.{Bool, true, false, ◌&&◌, ◌||◌, or-true, false≢true}
 use mathlib.Core.List.{List, [], ◌∷◌, ◌++◌}
-use lib.Dec.{ltb, eqb}
+use lib.Dec.{leb, eqb}
 use lib.ListN.{get_or}
-use borrow.Author.Tests.{ltb-true, ltb-false, eqb-true, lt-ltb, le-ltb}
+use borrow.Author.Tests.{ltb-true, eqb-true, lt-ltb, leb-true, le-leb}
+use Rattle.std.specs.Int.{is_in_range}
+use Rattle.std.specs.Char.{is_ascii_alphanumeric}
 use Rattle.protocol.specs.AddressText.{Hex}
 use Rattle.protocol.specs.AddressReading.{hex_value}
 use Rattle.protocol.proofs.AddressDigits.{hex_value_lem, value_hex, hex_small}
@@ -16,33 +19,57 @@ use Rattle.proxy_url_spec.proofs.Readers as R
 use Rattle.proxy_url_spec.proofs.Readers.{Any, Inhabited, Law, law_as, Image, some_image, law_map, Joined, some_joined, law_seq, Or, Apart, law_or}
 use Rattle.proxy_url_spec.proofs.Fields as F
 use Rattle.proxy_url_spec.proofs.Fields.{Is, law_word, Passes, law_one, Then, Row, law_marked}
+use Rattle.proxy_url_spec.proofs.Texts.{both_true}
 
 -- ---- unreserved bytes
 
-abbrev by : Bool → Bool → Bool → Bool → Bool → Bool → Bool → Bool → Bool → Bool → Bool
-by t u v w x y hy dt un ti = cond t (hy || dt) (cond u true (cond v false (cond w true (cond x un (cond y true ti)))))
+either_true : (a b : Bool) → (a || b) ≡ true → (a ≡ true) ⊎ (b ≡ true)
+either_true true b e = inl refl
+either_true false b e = inr e
+
+in_range : (low high b : ℕ) → (leb low b && leb b high) ≡ true → (low ≤ b) × (b ≤ high)
+in_range low high b e = let (l, h) = both_true _ _ e in (leb-true low b l, leb-true b high h)
 
 pub unreserved_is : (b : ℕ) → unreserved b ≡ true → Unreserved b
 unfolding unreserved
-unreserved_is b e = go (ltb b 0x30) (ltb b 0x3A) (ltb b 0x41) (ltb b 0x5B) (ltb b 0x61) (ltb b 0x7B) (eqb b 0x2D) refl refl refl refl refl refl refl e
+unreserved_is b e = go (either_true _ _ e)
   where
-    go : (t u v w x y hy : Bool) → ltb b 0x30 ≡ t → ltb b 0x3A ≡ u → ltb b 0x41 ≡ v → ltb b 0x5B ≡ w → ltb b 0x61 ≡ x → ltb b 0x7B ≡ y → eqb b 0x2D ≡ hy
-        → by t u v w x y hy (eqb b 0x2E) (eqb b 0x5F) (eqb b 0x7E) ≡ true → Unreserved b
-    go true u v w x y true e f g h i j k q = hyphen (eqb-true b 0x2D k)
-    go true u v w x y false e f g h i j k q = dot (eqb-true b 0x2E q)
-    go false true v w x y hy e f g h i j k q = digit (ltb-false b 0x30 e) (let z = ltb-true b 0x3A f in omega arith)
-    go false false true w x y hy e f g h i j k q = absurd (false≢true q)
-    go false false false true x y hy e f g h i j k q = upper (ltb-false b 0x41 g) (let z = ltb-true b 0x5B h in omega arith)
-    go false false false false true y hy e f g h i j k q = underscore (eqb-true b 0x5F q)
-    go false false false false false true hy e f g h i j k q = lower (ltb-false b 0x61 i) (let z = ltb-true b 0x7B j in omega arith)
-    go false false false false false false hy e f g h i j k q = tilde (eqb-true b 0x7E q)
+    mark : ((eqb b 0x2D || (eqb b 0x2E || (eqb b 0x5F || eqb b 0x7E))) ≡ true) → Unreserved b
+    mark e = go₁ (either_true _ _ e)
+      where
+        go₁ : (eqb b 0x2D ≡ true) ⊎ ((eqb b 0x2E || (eqb b 0x5F || eqb b 0x7E)) ≡ true) → Unreserved b
+        go₁ (inl e) = hyphen (eqb-true b 0x2D e)
+        go₁ (inr e) = go₂ (either_true _ _ e)
+          where
+            go₂ : (eqb b 0x2E ≡ true) ⊎ ((eqb b 0x5F || eqb b 0x7E) ≡ true) → Unreserved b
+            go₂ (inl e) = dot (eqb-true b 0x2E e)
+            go₂ (inr e) = go₃ (either_true _ _ e)
+              where
+                go₃ : (eqb b 0x5F ≡ true) ⊎ (eqb b 0x7E ≡ true) → Unreserved b
+                go₃ (inl e) = underscore (eqb-true b 0x5F e)
+                go₃ (inr e) = tilde (eqb-true b 0x7E e)
+
+    letter : ((is_in_range 48 57 b || is_in_range 65 90 b) ≡ true) ⊎ (is_in_range 97 122 b ≡ true) → Unreserved b
+    letter (inr e) = let (l, h) = in_range 97 122 b e in lower l h
+    letter (inl e) = go₄ (either_true _ _ e)
+      where
+        go₄ : (is_in_range 48 57 b ≡ true) ⊎ (is_in_range 65 90 b ≡ true) → Unreserved b
+        go₄ (inl e) = let (l, h) = in_range 48 57 b e in digit l h
+        go₄ (inr e) = let (l, h) = in_range 65 90 b e in upper l h
+
+    go : (is_ascii_alphanumeric b ≡ true) ⊎ ((eqb b 0x2D || (eqb b 0x2E || (eqb b 0x5F || eqb b 0x7E))) ≡ true) → Unreserved b
+    go (inl e) = letter (either_true _ _ e)
+    go (inr e) = mark e
+
+in_letters : (b : ℕ) → is_ascii_alphanumeric b ≡ true → unreserved b ≡ true
+unfolding unreserved
+in_letters b e = rw e
 
 pub is_unreserved : {b : ℕ} → Unreserved b → unreserved b ≡ true
 unfolding unreserved
-is_unreserved {b} (upper l h) = rw (le-ltb b 0x30 (omega arith), le-ltb b 0x3A (omega arith), le-ltb b 0x41 l, lt-ltb b 0x5B (omega arith))
-is_unreserved {b} (lower l h) =
-    rw (le-ltb b 0x30 (omega arith), le-ltb b 0x3A (omega arith), le-ltb b 0x41 (omega arith), le-ltb b 0x5B (omega arith), le-ltb b 0x61 l, lt-ltb b 0x7B (omega arith))
-is_unreserved {b} (digit l h) = rw (le-ltb b 0x30 l, lt-ltb b 0x3A (omega arith))
+is_unreserved {b} (upper l h) = in_letters b (rw (le-leb 65 b l, le-leb b 90 h, or-true (is_in_range 48 57 b)))
+is_unreserved {b} (lower l h) = in_letters b (rw (le-leb 97 b l, le-leb b 122 h, or-true (is_in_range 48 57 b || is_in_range 65 90 b)))
+is_unreserved {b} (digit l h) = in_letters b (rw (le-leb 48 b l, le-leb b 57 h))
 is_unreserved (hyphen e) = rw e
 is_unreserved (dot e) = rw e
 is_unreserved (underscore e) = rw e

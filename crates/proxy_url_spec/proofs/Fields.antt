@@ -9,7 +9,7 @@ use lib.ListN.{length, length-append}
 use borrow.Author.Tests.{eqb-true, eq-eqb}
 use Rattle.proxy_url_spec.specs.Reading.{reads, dies, Reader, common, word, one, consed, always, map, seq, many}
 use Rattle.proxy_url_spec.proofs.Readers as R
-use Rattle.proxy_url_spec.proofs.Readers.{Any, Found, Alive, Inhabited, Law, reads_not_dies, Image, law_map, Joined, law_seq, Or, Apart, law_or}
+use Rattle.proxy_url_spec.proofs.Readers.{Any, Found, Alive, Inhabited, Law, reads_not_dies, reads_value, reads_place, Image, law_map, Joined, law_seq, Or, Apart, law_or}
 
 -- ---- a word
 
@@ -74,8 +74,8 @@ module _ {A : Type 0} (w : List ℕ) (v : A) where
       let h = eqb-true (common w s) (length w) q in
       let l : length w ≡ length c.c + length c.u = ap length c.of_word ∙ length-append c.c c.u in
       let z : c.u ≡ [] = none_left c.u (let k = c.long in omega arith) in
-      let eu : u ≡ v = cc in
-      let en : n ≡ length w = cc in
+      let eu : u ≡ v = sym (reads_value e) in
+      let en : n ≡ length w = sym (reads_place e) in
       let ew : c.c ≡ w = sym (c.of_word ∙ rw z (append-nil c.c)) in
       record { w = w; t = c.r; split = c.of_text ∙ ap (λ (x : List ℕ). x ++ c.r) ew; long = en; word = record { spelt = refl; value = eu }; ok = tt }
   word_sound s u n false q e = absurd (reads_not_dies (sym e))
@@ -116,8 +116,8 @@ pub record Passes {A : Type 0} (test : ℕ → Bool) (value : ℕ → A) (w : Li
 module _ {A : Type 0} (test : ℕ → Bool) (value : ℕ → A) (b₀ : ℕ) (e₀ : test b₀ ≡ true) where
   one_sound_by : (b : ℕ) (s : List ℕ) (u : A) (n : ℕ) (x : Bool) → test b ≡ x → cond x (reads (value b) 1) (dies 0) ≡ reads u n → Found Any (Passes test value) (b ∷ s) u n
   one_sound_by b s u n true q e =
-      let eu : u ≡ value b = cc in
-      let en : n ≡ 1 = cc in
+      let eu : u ≡ value b = sym (reads_value e) in
+      let en : n ≡ 1 = sym (reads_place e) in
       record { w = b ∷ []; t = s; split = refl; long = en; word = record { b = b; spelt = refl; passes = q; is = eu }; ok = tt }
   one_sound_by b s u n false q e = absurd (reads_not_dies (sym e))
 

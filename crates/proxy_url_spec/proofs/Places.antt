@@ -12,7 +12,7 @@ use borrow.Author.Tests.{leb-true, leb-false}
 use Rattle.proxy_url_spec.specs.Grammar.{Host, ipv6, bytes, Value, Line, without_credentials, with_credentials}
 use Rattle.proxy_url_spec.specs.Place.{GoesOn, Place}
 use Rattle.proxy_url_spec.specs.Reading.{reads, dies, line_of}
-use Rattle.proxy_url_spec.proofs.Readers.{reads_not_dies}
+use Rattle.proxy_url_spec.proofs.Readers.{reads_not_dies, reads_value}
 use Rattle.proxy_url_spec.proofs.Lines.{law_line}
 
 -- ---- accepted exactly if the grammar has it
@@ -24,7 +24,7 @@ pub line_complete : {s : List ℕ} {v : Value} → Line s v → line_of s ≡ re
 line_complete {s} {v} x = rw append-nil at (law_line.complete s [] v x refl)
 
 pub line_once : {s : List ℕ} {u v : Value} → Line s u → Line s v → u ≡ v
-line_once x y = let e = line_complete x in let f = line_complete y in cc
+line_once x y = reads_value (sym (line_complete x) ∙ line_complete y)
 
 -- ---- the place
 

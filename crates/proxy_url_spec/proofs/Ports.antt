@@ -13,7 +13,7 @@ use Rattle.protocol.specs.AddressReading.{hex_value, digits_from}
 use Rattle.protocol.proofs.AddressDigits.{hex_value_lem, value_hex, decimal_of, positive, digits_on, Took, taken, ended}
 use Rattle.proxy_url_spec.specs.Grammar.{Port, one, more}
 use Rattle.proxy_url_spec.specs.Reading.{reads, dies, port_goes, port_by, port_of}
-use Rattle.proxy_url_spec.proofs.Readers.{Nothing, Found, Alive, Law, reads_not_dies}
+use Rattle.proxy_url_spec.proofs.Readers.{Nothing, Found, Alive, Law, reads_not_dies, reads_value, reads_place}
 
 -- ---- which digits may follow
 
@@ -115,8 +115,8 @@ port_sound s v n r q e = go (eqb r.count (length s)) refl (eqb r.count 0) refl e
     go true c true z e = absurd (reads_not_dies (sym e))
     go true c false z e =
         let h = eqb-true r.count (length s) c in
-        let ev : r.value ≡ v = cc in
-        let en : n ≡ length s = let m : n ≡ r.count = cc in m ∙ h in
+        let ev : r.value ≡ v = reads_value e in
+        let en : n ≡ length s = sym (reads_place e) ∙ h in
         let f : ((digits s).count ≡ 0 → ⊥) = rw q (eqb-false r.count 0 z) in
         let w : Port s r.value = ended Port s r (rw q at (port_taken s f)) h in
         record { w = s; t = []; split = sym (append-nil s); long = en; word = rw ev at w; ok = refl }

@@ -55,9 +55,15 @@ module _ {A : Type 0} where
   pub reads_not_dies : {v : A} {m n : ℕ} → ◌≡◌ {A = Read A} (reads v m) (dies n) → ⊥
   reads_not_dies e = let z : ◌≡◌ {A = ℕ} 0 1 = cc in absurd (omega arith)
 
+  pub reads_value : {u v : A} {m n : ℕ} → ◌≡◌ {A = Read A} (reads u m) (reads v n) → u ≡ v
+  reads_value {u} {v} {m} {n} e = let p : ◌≡◌ {A = A × ℕ} (u, m) (v, n) = cc in ap (λ (x : A × ℕ). x.0) p
+
+  pub reads_place : {u v : A} {m n : ℕ} → ◌≡◌ {A = Read A} (reads u m) (reads v n) → m ≡ n
+  reads_place {u} {v} {m} {n} e = let p : ◌≡◌ {A = A × ℕ} (u, m) (v, n) = cc in ap (λ (x : A × ℕ). x.1) p
+
   -- a word is read as one value, whatever its length is
   pub one_value : {Ok : List ℕ → Type 0} {W : List ℕ → A → Type 0} {F : Reader A} → Law Ok W F → {s : List ℕ} {u v : A} → Ok [] → W s u → W s v → u ≡ v
-  one_value l {s} {u} {v} o x y = let e = l.complete s [] u x o in let f = l.complete s [] v y o in cc
+  one_value l {s} {u} {v} o x y = reads_value (sym (l.complete s [] u x o) ∙ l.complete s [] v y o)
 
   -- a place is within the text
   pub reads_within : {Ok : List ℕ → Type 0} {W : List ℕ → A → Type 0} {F : Reader A} → Law Ok W F → {s : List ℕ} {v : A} {n : ℕ} → F s ≡ reads v n → n ≤ length s
@@ -99,8 +105,8 @@ module _ {A B : Type 0} (f : A → B) (Ok : List ℕ → Type 0) (W : List ℕ �
   map_sound : (s : List ℕ) (u : B) (n : ℕ) (r : Read A) → F s ≡ r → mapped f r ≡ reads u n → Found Ok (Image f W) s u n
   map_sound s u n (reads v m) q e =
       let x = l.sound s v m q in
-      let eu : u ≡ f v = cc in
-      let en : n ≡ m = cc in
+      let eu : u ≡ f v = sym (reads_value e) in
+      let en : n ≡ m = sym (reads_place e) in
       record { w = x.w; t = x.t; split = x.split; long = en ∙ x.long; word = record { value = v; word = x.word; is = eu }; ok = x.ok }
   map_sound s u n (dies m) q e = absurd (reads_not_dies (sym e))
 
@@ -158,8 +164,8 @@ module _ {A B : Type 0} (Ok : List ℕ → Type 0) (W : List ℕ → A → Type 
   seq_sound_by s t n v m q (reads u i) g e =
       let x = l.sound s v m q in
       let y = (k v).sound (drop m s) u i g in
-      let et : (v, m, u) ≡ t = cc in
-      let en : n ≡ m + i = cc in
+      let et : (v, m, u) ≡ t = reads_value e in
+      let en : n ≡ m + i = sym (reads_place e) in
       record {
         w = x.w ++ y.w;
         t = y.t;

@@ -19,7 +19,7 @@ use Rattle.proxy_url_spec.specs.Ipv6Endings.{endings}
 use Rattle.proxy_url_spec.proofs.Ipv6Extent.{ipv6_long, ipv6_no_bracket}
 use Rattle.proxy_url_spec.proofs.Ipv6Beginnings.{stops_by}
 use Rattle.proxy_url_spec.specs.Reading.{reads, dies, is_some, ipv6_by, ipv6_goes_on, along, ipv6_end, ipv6_text_of}
-use Rattle.proxy_url_spec.proofs.Readers.{Any, Found, Alive, Inhabited, Law, reads_not_dies}
+use Rattle.proxy_url_spec.proofs.Readers.{Any, Found, Alive, Inhabited, Law, reads_not_dies, reads_value, reads_place}
 
 -- ---- as far as a test on beginnings passes
 
@@ -200,8 +200,8 @@ closed_sound s v m n true q e =
     let (c, d) = both_true _ _ q in
     let f = eqb-true (byte s n) 0x5D c in
     let h = mark_inside s n f in
-    let ev : take n s ≡ v = cc in
-    let em : m ≡ n + 1 = cc in
+    let ev : take n s ≡ v = reads_value e in
+    let em : m ≡ n + 1 = sym (reads_place e) in
     let (bs, x) = by_ending (take n s) [] d in
     let x' : Ipv6 (take n s) bs = rw append-nil at x in
     let l = length-take-le n s (le_of_lt h) in

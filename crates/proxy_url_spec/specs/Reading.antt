@@ -1,5 +1,6 @@
 -- F-9 in handy forms, not to be believed: a line read field by field from the left; what code computes. proofs/ holds it to the grammar.
-use Rattle.std.specs.Prelude.{ℕ, zero, suc, ◌+◌, ◌*◌, max, Bool, true, false, cond, ◌&&◌, ◌||◌, not, List, [], ◌∷◌, ◌++◌, length, take, drop, ltb, leb, eqb}
+use Rattle.std.specs.Prelude.{ℕ, zero, suc, Result, Ok, Err, ◌+◌, ◌*◌, max, Bool, true, false, cond, ◌&&◌, ◌||◌, not, List, [], ◌∷◌, ◌++◌, length, take, drop, ltb, eqb}
+use Rattle.std.specs.Char.{is_ascii_alphanumeric, is_ascii_graphic}
 use Rattle.std.proofs.Math.Option.{Option, none, some}
 use Rattle.protocol.specs.declared.Version.{Version}
 use Rattle.protocol.specs.declared.Version.TheVariants.{V4, V5}
@@ -11,9 +12,14 @@ use Rattle.proxy_url_spec.specs.Grammar.{Value}
 -- ---- readers
 
 -- a field at a text's start: its value and the next place, or the place at which it dies
-pub data Read (A : Type 0) : Type 0 where
-  reads : A → ℕ → Read A
-  dies : ℕ → Read A
+abbrev pub Read : Type 0 → Type 0
+Read A = Result (A × ℕ) ℕ
+
+pattern abbrev pub reads : {A : Type 0} → A → ℕ → Read A
+reads v n = Ok (v, n)
+
+pattern abbrev pub dies : {A : Type 0} → ℕ → Read A
+dies n = Err n
 
 abbrev pub Reader : Type 0 → Type 0
 Reader A = List ℕ → Read A
@@ -103,13 +109,7 @@ scheme_of = or (word socks4_word (V4, true)) (or (word socks4a_word (V4, false))
 -- ---- user and password
 
 unfoldable pub unreserved : ℕ → Bool
-unreserved b =
-    cond (ltb b 0x30) (eqb b 0x2D || eqb b 0x2E)
-    (cond (ltb b 0x3A) true
-    (cond (ltb b 0x41) false
-    (cond (ltb b 0x5B) true
-    (cond (ltb b 0x61) (eqb b 0x5F)
-    (cond (ltb b 0x7B) true (eqb b 0x7E))))))
+unreserved b = is_ascii_alphanumeric b || (eqb b 0x2D || (eqb b 0x2E || (eqb b 0x5F || eqb b 0x7E)))
 
 -- the byte itself
 abbrev pub itself : ℕ → ℕ
@@ -185,7 +185,7 @@ brackets_of = map bracketed (seq (mark_of 0x5B) (always (seq ipv6_text_of (alway
 
 unfoldable pub host_byte : ℕ → Bool
 host_byte b =
-    (leb 0x21 b && leb b 0x7E)
+    is_ascii_graphic b
     && (not (eqb b 0x2F) && (not (eqb b 0x40) && (not (eqb b 0x25) && (not (eqb b 0x3A) && (not (eqb b 0x5B) && not (eqb b 0x5D))))))
 
 abbrev pub named : List ℕ → Hosted

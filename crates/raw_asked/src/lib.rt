@@ -24,23 +24,19 @@ pub struct RawTarget {
 pub fn outcome(server: RawServer) -> RawOutcome
     ensures { result ≡ standing_of (server_of server).stage }
 {
-    let before = server_of(server);
-    let stage = before.stage;
-    standing_of(stage)
+    standing_of(server_of(server).stage)
 }
 
 // The destination that was handed out; of an end that neither awaits the caller's answer nor is open IPv4 zeros and port 0.
 pub fn destination(server: RawServer) -> RawTarget
     ensures { result ≡ target_of (destination (server_of server)) }
 {
-    let before = server_of(server);
-    let target = before.destination();
-    let kind = target.kind;
+    let target = server_of(server).destination();
     let bytes = target.bytes;
     RawTarget {
         len: target.len,
         port: target.port,
-        kind: kind_number(kind),
-        bytes: bytes,
+        kind: kind_number(target.kind),
+        bytes,
     }
 }

@@ -12,29 +12,20 @@ use raw_session::{RawSession, RawStep, session_of, step};
 pub fn start(session: RawSession, out: &mut [u8]) -> RawStep
     ensures { Says (start (session_of session) out.old) result out.new }
 {
-    let before = session_of(session);
-    let made = before.start(out);
-    let answer = made.answer;
-    let after = made.session;
-    step(answer, after, 0, made.sent)
+    let made = session_of(session).start(out);
+    step(made.answer, made.session, 0, made.sent)
 }
 
 pub fn deliver(session: RawSession, piece: &[u8], out: &mut [u8]) -> RawStep
     ensures { Says (deliver (session_of session) piece.now out.old) result out.new }
 {
-    let before = session_of(session);
-    let made = before.deliver(piece, out);
-    let answer = made.answer;
-    let after = made.session;
-    step(answer, after, made.used, made.sent)
+    let made = session_of(session).deliver(piece, out);
+    step(made.answer, made.session, made.used, made.sent)
 }
 
 pub fn end(session: RawSession) -> RawStep
     ensures { result ≡ step_by (end (session_of session)) }
 {
-    let before = session_of(session);
-    let made = before.end();
-    let answer = made.answer;
-    let after = made.session;
-    step(answer, after, 0, 0)
+    let made = session_of(session).end();
+    step(made.answer, made.session, 0, 0)
 }

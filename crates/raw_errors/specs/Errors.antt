@@ -32,6 +32,3 @@ errors status =
 
 unfoldable pub error_of : ℕ → ℕ → SocksError
 error_of n status = error_among (errors status) n
-
-unfoldable pub later_error : ℕ → ℕ → SocksError
-later_error n status = error_among (later_errors status) n

@@ -4,8 +4,7 @@ use Rattle.protocol.specs.declared.AddressKind.{AddressKind}
 use Rattle.protocol.specs.declared.AddressKind.TheVariants.{Ipv4, Ipv6, Domain}
 use Rattle.protocol.specs.declared.Family.{Family}
 use Rattle.protocol.specs.declared.Family.TheVariants.{Four, Six}
-use Rattle.protocol.specs.declared.Port.{Port}
-use Rattle.protocol.specs.declared.Port.TheVariants.{Missing, Given}
+use Rattle.protocol.specs.Answers.{Port, Missing, Given}
 
 -- 0 is false, and any other number true
 unfoldable pub truth : ℕ → Bool

@@ -5,7 +5,7 @@
 ghost use Rattle.std.specs.Prelude.{◌≡◌};
 ghost use Rattle.raw_numbers.specs.Numbers.{truth, bit, kind_of, kind_number, family_of, port_of};
 
-use protocol::{AddressKind, Family, Port};
+use protocol::{AddressKind, Family};
 
 pub fn truth(n: u8) -> bool
     ensures { result ≡ truth n }
@@ -16,19 +16,17 @@ pub fn truth(n: u8) -> bool
 pub fn bit(b: bool) -> u8
     ensures { result ≡ bit b }
 {
-    if b { 1 } else { 0 }
+    u8::from(b)
 }
 
 pub fn kind_of(n: u8) -> AddressKind
     ensures { result ≡ kind_of n }
 {
-    if n == 3 {
-        return AddressKind::Domain;
+    match n {
+        3 => AddressKind::Domain,
+        4 => AddressKind::Ipv6,
+        _ => AddressKind::Ipv4,
     }
-    if n == 4 {
-        return AddressKind::Ipv6;
-    }
-    AddressKind::Ipv4
 }
 
 pub fn kind_number(kind: AddressKind) -> u8
@@ -44,17 +42,14 @@ pub fn kind_number(kind: AddressKind) -> u8
 pub fn family_of(n: u8) -> Family
     ensures { result ≡ family_of n }
 {
-    if n == 4 {
-        return Family::Six;
+    match n {
+        4 => Family::Six,
+        _ => Family::Four,
     }
-    Family::Four
 }
 
-pub fn port_of(n: u32) -> Port
+pub fn port_of(n: u32) -> Option<u16>
     ensures { result ≡ port_of n }
 {
-    if n < 65536 {
-        return Port::Given(n as u16);
-    }
-    Port::Missing
+    if n < 65536 { Some(n as u16) } else { None }
 }

@@ -34,9 +34,7 @@ fn config_of(raw: RawConfig) -> SocksConfig
 fn prepared_step(prepared: Prepared) -> RawStep
     ensures { result ≡ prepared_step prepared }
 {
-    let answer = prepared.answer;
-    let session = prepared.session;
-    step(answer, session, 0, 0)
+    step(prepared.answer, prepared.session, 0, 0)
 }
 
 // Prepares a session over SOCKS5. A port above 65535 is none. `records` is an array of records, of 17 bytes each.
@@ -50,14 +48,13 @@ pub fn prepare5(
 ) -> RawStep
     ensures { result ≡ prepared_step (prepare5 (given5 config host.now port user.now password.now records.now)) }
 {
-    let chosen = found(records, false);
     prepared_step(client_opening_v5::opening::prepare_chosen(
         config_of(config),
         host,
         port_of(port),
         user,
         password,
-        chosen,
+        found(records, false),
     ))
 }
 
@@ -65,11 +62,10 @@ pub fn prepare5(
 pub fn prepare4(local_dns: u8, host: &[u8], port: u32, records: &[u8]) -> RawStep
     ensures { result ≡ prepared_step (prepare4 (given4 local_dns host.now port records.now)) }
 {
-    let chosen = found(records, true);
     prepared_step(client_opening_v4::opening::prepare_chosen(
         truth(local_dns),
         host,
         port_of(port),
-        chosen,
+        found(records, true),
     ))
 }

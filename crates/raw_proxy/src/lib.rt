@@ -26,7 +26,7 @@ fn record_of(raw: RawRecord) -> Record
     let address = raw.address;
     Record {
         family: family_of(raw.kind),
-        address: address,
+        address,
     }
 }
 
@@ -35,20 +35,15 @@ pub fn set_up(authenticates: u8, user: &[u8], password: &[u8]) -> RawServed
     ensures { result ≡ set_up_served (set_up (truth authenticates) user.now password.now) }
 {
     let made = proxy_session::set_up(truth(authenticates), user, password);
-    let answer = made.answer;
-    let server = made.server;
-    served(answer, server, 0, 0)
+    served(made.answer, made.server, 0, 0)
 }
 
 // Takes a client's piece, and puts what is said at the output's start.
 pub fn deliver(server: RawServer, piece: &[u8], out: &mut [u8]) -> RawServed
     ensures { Serves (deliver (server_of server) piece.now out.old) result out.new }
 {
-    let before = server_of(server);
-    let made = before.deliver(piece, out);
-    let answer = made.answer;
-    let after = made.server;
-    served(answer, after, made.used, made.sent)
+    let made = server_of(server).deliver(piece, out);
+    served(made.answer, made.server, made.used, made.sent)
 }
 
 // The caller's answer to a destination: a status, and the address and port that are bound.
@@ -61,20 +56,14 @@ pub fn answer(
 ) -> RawServed
     ensures { Serves (answer (server_of server) status (endpoint_of (record_of bound) port) out.old) result out.new }
 {
-    let before = server_of(server);
-    let made = before.answer(status, record_of(bound), port, out);
-    let answer = made.answer;
-    let after = made.server;
-    served(answer, after, 0, made.sent)
+    let made = server_of(server).answer(status, record_of(bound), port, out);
+    served(made.answer, made.server, 0, made.sent)
 }
 
 // The client's stream has ended.
 pub fn end(server: RawServer) -> RawServed
     ensures { result ≡ served_by (end (server_of server)) }
 {
-    let before = server_of(server);
-    let made = before.end();
-    let answer = made.answer;
-    let after = made.server;
-    served(answer, after, 0, 0)
+    let made = server_of(server).end();
+    served(made.answer, made.server, 0, 0)
 }

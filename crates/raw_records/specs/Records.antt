@@ -1,9 +1,8 @@
 -- A lookup's answers as bytes: an array of C's structs of 17 bytes, each its kind's number and 16 bytes of address.
-use Rattle.std.specs.Prelude.{ℕ, zero, suc, ◌+◌, ◌/◌, ◌≤◌, ◌≡◌, Bool, true, cond, not, ◌||◌, List, [], ◌∷◌, ◌++◌, length, take, drop, eqb}
+use Rattle.std.specs.Prelude.{ℕ, zero, suc, ◌+◌, ◌/◌, ◌≤◌, ◌≡◌, Bool, true, cond, not, ◌||◌, List, [], ◌∷◌, ◌++◌, length, take, drop, eqb, Option}
 use Rattle.protocol.specs.declared.Record.{Record}
 use Rattle.protocol.specs.Bytes.{byte}
-use Rattle.lookup.specs.declared.Lookup.{Lookup}
-use Rattle.lookup.specs.Chosen.{none_found, chosen_of}
+use Rattle.lookup.specs.Chosen.{chosen_of}
 use Rattle.raw_numbers.specs.Numbers.{family_of}
 
 -- 1 and 4 are the numbers of IPv4 and IPv6, as RFC 1928, section 4, has them; any other is no record
@@ -21,8 +20,8 @@ records_in bs = records_from (length bs / 17) bs
 
 -- ---- where the record that is taken stands
 
-abbrev pub chosen_in : Bool → List ℕ → Lookup
-chosen_in four bs = chosen_of four none_found (records_in bs)
+abbrev pub chosen_in : Bool → List ℕ → Option Record
+chosen_in four bs = chosen_of four (records_in bs)
 
 unfoldable pub serves_number : Bool → ℕ → Bool
 serves_number four n = cond (eqb n 4) (not four) (eqb n 1)

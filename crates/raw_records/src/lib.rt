@@ -3,12 +3,11 @@
 #![tactic(auto)]
 
 ghost use Rattle.std.specs.Prelude.{◌≡◌};
-ghost use Rattle.lookup.specs.Chosen.{none_found, chosen_of};
+ghost use Rattle.lookup.specs.Chosen.{chosen_of};
 ghost use Rattle.raw_records.specs.Records.{records_in, serves_number, Placed};
 
 use buffers::write::copy;
-use lookup::Lookup;
-use protocol::{Family, Record};
+use protocol::Record;
 use raw_numbers::family_of;
 
 // Whether a record of this number serves, where only four may be wanted.
@@ -36,26 +35,17 @@ fn place(records: &[u8], four: bool) -> usize
 }
 
 // The record taken, if there is one.
-pub fn found(records: &[u8], four: bool) -> Lookup
-    ensures { result ≡ chosen_of four none_found (records_in records.now) }
+pub fn found(records: &[u8], four: bool) -> Option<Record>
+    ensures { result ≡ chosen_of four (records_in records.now) }
 {
     let at = place(records, four);
-    let mut address = [0u8; 16];
     if records.len() - at < 17 {
-        return Lookup {
-            found: false,
-            first: Record {
-                family: Family::Four,
-                address: address,
-            },
-        };
+        return None;
     }
+    let mut address = [0u8; 16];
     copy(&mut address, 0, &records[at + 1..at + 17]);
-    Lookup {
-        found: true,
-        first: Record {
-            family: family_of(records[at]),
-            address: address,
-        },
-    }
+    Some(Record {
+        family: family_of(records[at]),
+        address,
+    })
 }

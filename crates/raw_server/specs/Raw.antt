@@ -1,6 +1,6 @@
 -- The proxy's end as numbers and arrays: the end that numbers mean, and the numbers of an end. Every number has a meaning.
 use Rattle.std.specs.Prelude.{ℕ, Bool, true, false, cond, eqb, leb, replicate}
-use Rattle.protocol.specs.declared.Answer.{Answer}
+use Rattle.protocol.specs.Answers.{Answer}
 use Rattle.protocol.specs.declared.Version.{Version}
 use Rattle.protocol.specs.declared.Version.TheVariants.{V4, V5}
 use Rattle.protocol.specs.Numbers.{number, status, answer_number}

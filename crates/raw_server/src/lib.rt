@@ -3,10 +3,10 @@
 #![tactic(auto)]
 
 ghost use Rattle.std.specs.Prelude.{◌≡◌};
-ghost use Rattle.raw_server.specs.Raw.{ports_of, awaited_of, stage_of, numbered, with_ports, password_number, asked_number, open_number, awaited_numbers, stage_numbers, server_of, raw_of, standing_of, served_of};
+ghost use Rattle.raw_server.specs.Raw.{ports_of, awaited_of, stage_of, numbered, with_ports, awaited_numbers, stage_numbers, server_of, raw_of, standing_of, served_of};
 
 use error_numbers::{answer_number, number, status};
-use protocol::{Answer, Bound, Version};
+use protocol::{Bound, SocksError, Version};
 use proxy_replies::stages::success;
 use proxy_session::{Credential, Server};
 use proxy_spec::{Field, Ports, Stage};
@@ -48,6 +48,7 @@ pub struct RawServer {
 
 // What a call answers, which is 0 or the refusal's number, what it used of the piece and put at the output's start, the end that it
 // leaves, and how that stands.
+// The C interface has its answer as a number.
 #[repr(C)]
 #[derive(Clone, Copy)]
 pub struct RawServed {
@@ -75,68 +76,41 @@ fn ports_of(raw: RawStage) -> Ports
 fn awaited_of(raw: RawStage) -> Field
     ensures { result ≡ awaited_of raw }
 {
-    if raw.number == 1 {
-        return Field::First;
+    match raw.number {
+        1 => Field::First,
+        2 => Field::Methods,
+        3 => Field::User,
+        4 => Field::Password(false),
+        5 => Field::Password(true),
+        6 => Field::Head,
+        7 => Field::Address(raw.command, raw.atyp),
+        8 => Field::Request,
+        9 => Field::UserId(ports_of(raw)),
+        _ => Field::Name(ports_of(raw)),
     }
-    if raw.number == 2 {
-        return Field::Methods;
-    }
-    if raw.number == 3 {
-        return Field::User;
-    }
-    if raw.number == 4 {
-        return Field::Password(false);
-    }
-    if raw.number == 5 {
-        return Field::Password(true);
-    }
-    if raw.number == 6 {
-        return Field::Head;
-    }
-    if raw.number == 7 {
-        return Field::Address(raw.command, raw.atyp);
-    }
-    if raw.number == 8 {
-        return Field::Request;
-    }
-    if raw.number == 9 {
-        return Field::UserId(ports_of(raw));
-    }
-    Field::Name(ports_of(raw))
 }
 
 // The stage of a number: failed for one that no other stage has.
 fn stage_of(raw: RawStage) -> Stage
     ensures { result ≡ stage_of raw }
 {
-    if raw.number == 0 {
-        return Stage::Failed(error_of(raw.error, raw.status));
+    match raw.number {
+        1..=10 => Stage::Awaiting(awaited_of(raw)),
+        11 => Stage::Asked(Version::V4),
+        12 => Stage::Asked(Version::V5),
+        13 => Stage::Open(Version::V4),
+        14 => Stage::Open(Version::V5),
+        _ => Stage::Failed(error_of(raw.error, raw.status)),
     }
-    if raw.number <= 10 {
-        return Stage::Awaiting(awaited_of(raw));
-    }
-    if raw.number == 11 {
-        return Stage::Asked(Version::V4);
-    }
-    if raw.number == 12 {
-        return Stage::Asked(Version::V5);
-    }
-    if raw.number == 13 {
-        return Stage::Open(Version::V4);
-    }
-    if raw.number == 14 {
-        return Stage::Open(Version::V5);
-    }
-    Stage::Failed(error_of(raw.error, raw.status))
 }
 
 // A stage that keeps nothing beside its number.
-fn numbered(n: u8) -> RawStage
-    ensures { result ≡ numbered n }
+fn numbered(number: u8) -> RawStage
+    ensures { result ≡ numbered number }
 {
     RawStage {
         dstport: 0,
-        number: n,
+        number,
         error: 0,
         status: 0,
         command: 0,
@@ -153,39 +127,12 @@ fn with_ports(n: u8, ports: Ports) -> RawStage
 {
     RawStage {
         dstport: ports.port,
-        number: n,
-        error: 0,
-        status: 0,
         command: ports.command,
-        atyp: 0,
         first: ports.first,
         second: ports.second,
         third: ports.third,
         fourth: ports.fourth,
-    }
-}
-
-fn password_number(matches: bool) -> u8
-    ensures { result ≡ password_number matches }
-{
-    if matches { 5 } else { 4 }
-}
-
-fn asked_number(version: Version) -> u8
-    ensures { result ≡ asked_number version }
-{
-    match version {
-        Version::V4 => 11,
-        Version::V5 => 12,
-    }
-}
-
-fn open_number(version: Version) -> u8
-    ensures { result ≡ open_number version }
-{
-    match version {
-        Version::V4 => 13,
-        Version::V5 => 14,
+        ..numbered(n)
     }
 }
 
@@ -196,19 +143,13 @@ fn awaited_numbers(field: Field) -> RawStage
         Field::First => numbered(1),
         Field::Methods => numbered(2),
         Field::User => numbered(3),
-        Field::Password(matches) => numbered(password_number(matches)),
+        Field::Password(false) => numbered(4),
+        Field::Password(true) => numbered(5),
         Field::Head => numbered(6),
         Field::Address(command, atyp) => RawStage {
-            dstport: 0,
-            number: 7,
-            error: 0,
-            status: 0,
-            command: command,
-            atyp: atyp,
-            first: 0,
-            second: 0,
-            third: 0,
-            fourth: 0,
+            command,
+            atyp,
+            ..numbered(7)
         },
         Field::Request => numbered(8),
         Field::UserId(ports) => with_ports(9, ports),
@@ -221,19 +162,14 @@ fn stage_numbers(stage: Stage) -> RawStage
 {
     match stage {
         Stage::Awaiting(field) => awaited_numbers(field),
-        Stage::Asked(version) => numbered(asked_number(version)),
-        Stage::Open(version) => numbered(open_number(version)),
+        Stage::Asked(Version::V4) => numbered(11),
+        Stage::Asked(Version::V5) => numbered(12),
+        Stage::Open(Version::V4) => numbered(13),
+        Stage::Open(Version::V5) => numbered(14),
         Stage::Failed(error) => RawStage {
-            dstport: 0,
-            number: 0,
             error: number(error),
             status: status(error),
-            command: 0,
-            atyp: 0,
-            first: 0,
-            second: 0,
-            third: 0,
-            fourth: 0,
+            ..numbered(0)
         },
     }
 }
@@ -242,19 +178,17 @@ fn stage_numbers(stage: Stage) -> RawStage
 pub fn server_of(raw: RawServer) -> Server
     ensures { result ≡ server_of raw }
 {
-    let stage = raw.stage;
     let hold = raw.hold;
     let user = raw.user;
     let password = raw.password;
-    let bound = Bound {
-        kind: kind_of(raw.kind),
-        port: raw.port,
-    };
     Server {
-        stage: stage_of(stage),
+        stage: stage_of(raw.stage),
         held: raw.held,
-        hold: hold,
-        bound: bound,
+        hold,
+        bound: Bound {
+            kind: kind_of(raw.kind),
+            port: raw.port,
+        },
         authenticates: truth(raw.authenticates),
         user: Credential {
             len: raw.userlen,
@@ -271,25 +205,20 @@ pub fn server_of(raw: RawServer) -> Server
 pub fn raw_of(server: Server) -> RawServer
     ensures { result ≡ raw_of server }
 {
-    let stage = server.stage;
-    let bound = server.bound;
-    let kind = bound.kind;
     let hold = server.hold;
-    let user = server.user;
-    let password = server.password;
-    let user_bytes = user.bytes;
-    let password_bytes = password.bytes;
+    let user = server.user.bytes;
+    let password = server.password.bytes;
     RawServer {
         held: server.held,
-        stage: stage_numbers(stage),
-        port: bound.port,
-        kind: kind_number(kind),
+        stage: stage_numbers(server.stage),
+        port: server.bound.port,
+        kind: kind_number(server.bound.kind),
         authenticates: bit(server.authenticates),
-        userlen: user.len,
-        passlen: password.len,
-        hold: hold,
-        user: user_bytes,
-        password: password_bytes,
+        userlen: server.user.len,
+        passlen: server.password.len,
+        hold,
+        user,
+        password,
     }
 }
 
@@ -297,39 +226,27 @@ pub fn raw_of(server: Server) -> RawServer
 pub fn standing_of(stage: Stage) -> RawOutcome
     ensures { result ≡ standing_of stage }
 {
-    match stage {
-        Stage::Awaiting(field) => RawOutcome {
-            state: 0,
-            number: 0,
-            status: 0,
-        },
-        Stage::Asked(version) => RawOutcome {
-            state: 3,
-            number: 0,
-            status: success(version),
-        },
-        Stage::Open(version) => RawOutcome {
-            state: 1,
-            number: 0,
-            status: 0,
-        },
-        Stage::Failed(error) => RawOutcome {
-            state: 2,
-            number: number(error),
-            status: status(error),
-        },
+    let (state, number, status) = match stage {
+        Stage::Awaiting(_) => (0, 0, 0),
+        Stage::Asked(version) => (3, 0, success(version)),
+        Stage::Open(_) => (1, 0, 0),
+        Stage::Failed(error) => (2, number(error), status(error)),
+    };
+    RawOutcome {
+        state,
+        number,
+        status,
     }
 }
 
-pub fn served(answer: Answer, server: Server, used: usize, sent: usize) -> RawServed
+pub fn served(answer: Result<(), SocksError>, server: Server, used: usize, sent: usize) -> RawServed
     ensures { result ≡ served_of answer server used sent }
 {
-    let stage = server.stage;
     RawServed {
         server: raw_of(server),
-        used: used,
-        sent: sent,
+        used,
+        sent,
         answer: answer_number(answer),
-        outcome: standing_of(stage),
+        outcome: standing_of(server.stage),
     }
 }

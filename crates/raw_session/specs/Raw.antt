@@ -1,6 +1,6 @@
 -- A session as numbers and arrays: the session that numbers mean, and the numbers of a session. Every number has a meaning.
 use Rattle.std.specs.Prelude.{ℕ, cond, eqb, replicate}
-use Rattle.protocol.specs.declared.Answer.{Answer}
+use Rattle.protocol.specs.Answers.{Answer}
 use Rattle.protocol.specs.declared.AuthMethod.{AuthMethod}
 use Rattle.protocol.specs.declared.AuthMethod.TheVariants.{NoAuth, UserPass, NoneAcceptable}
 use Rattle.protocol.specs.declared.Reply.{Reply}

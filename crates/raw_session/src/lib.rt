@@ -3,12 +3,12 @@
 #![tactic(auto)]
 
 ghost use Rattle.std.specs.Prelude.{◌≡◌};
-ghost use Rattle.raw_session.specs.Raw.{stage_of, method_number, reply_number, stage_numbers, session_of, raw_of, outcome_of, step_of};
+ghost use Rattle.raw_session.specs.Raw.{stage_of, reply_number, stage_numbers, session_of, raw_of, outcome_of, step_of};
 
 use client_session::Session;
 use client_stages::due::{Lengths, Requests, Stage};
 use error_numbers::{answer_number, number, status};
-use protocol::{Answer, AuthMethod, Bound, Outcome, Reply};
+use protocol::{AuthMethod, Bound, Outcome, Reply, SocksError};
 use raw_errors::error_of;
 use raw_numbers::{bit, kind_number, kind_of, truth};
 
@@ -43,6 +43,7 @@ pub struct RawOutcome {
 
 // What a call answers, which is 0 or the refusal's number, what it used of the piece and put at the output's start, the session that it
 // leaves, and how that stands.
+// The C interface has its answer as a number.
 #[repr(C)]
 #[derive(Clone, Copy)]
 pub struct RawStep {
@@ -65,37 +66,15 @@ struct StageNumbers {
 fn stage_of(n: u8, error: u8, status: u8) -> Stage
     ensures { result ≡ stage_of n error status }
 {
-    if n == 1 {
-        return Stage::Awaiting(Reply::NegotiationRes(AuthMethod::NoAuth));
-    }
-    if n == 2 {
-        return Stage::Awaiting(Reply::NegotiationRes(AuthMethod::UserPass));
-    }
-    if n == 3 {
-        return Stage::Awaiting(Reply::NegotiationRes(AuthMethod::NoneAcceptable));
-    }
-    if n == 4 {
-        return Stage::Awaiting(Reply::AuthenticationRes);
-    }
-    if n == 5 {
-        return Stage::Awaiting(Reply::ProxyRes);
-    }
-    if n == 6 {
-        return Stage::Awaiting(Reply::Response);
-    }
-    if n == 7 {
-        return Stage::Open;
-    }
-    Stage::Failed(error_of(error, status))
-}
-
-fn method_number(method: AuthMethod) -> u8
-    ensures { result ≡ method_number method }
-{
-    match method {
-        AuthMethod::NoAuth => 1,
-        AuthMethod::UserPass => 2,
-        AuthMethod::NoneAcceptable => 3,
+    match n {
+        1 => Stage::Awaiting(Reply::NegotiationRes(AuthMethod::NoAuth)),
+        2 => Stage::Awaiting(Reply::NegotiationRes(AuthMethod::UserPass)),
+        3 => Stage::Awaiting(Reply::NegotiationRes(AuthMethod::NoneAcceptable)),
+        4 => Stage::Awaiting(Reply::AuthenticationRes),
+        5 => Stage::Awaiting(Reply::ProxyRes),
+        6 => Stage::Awaiting(Reply::Response),
+        7 => Stage::Open,
+        _ => Stage::Failed(error_of(error, status)),
     }
 }
 
@@ -103,7 +82,9 @@ fn reply_number(reply: Reply) -> u8
     ensures { result ≡ reply_number reply }
 {
     match reply {
-        Reply::NegotiationRes(method) => method_number(method),
+        Reply::NegotiationRes(AuthMethod::NoAuth) => 1,
+        Reply::NegotiationRes(AuthMethod::UserPass) => 2,
+        Reply::NegotiationRes(AuthMethod::NoneAcceptable) => 3,
         Reply::AuthenticationRes => 4,
         Reply::ProxyRes => 5,
         Reply::Response => 6,
@@ -113,22 +94,15 @@ fn reply_number(reply: Reply) -> u8
 fn stage_numbers(stage: Stage) -> StageNumbers
     ensures { result ≡ stage_numbers stage }
 {
-    match stage {
-        Stage::Awaiting(reply) => StageNumbers {
-            stage: reply_number(reply),
-            error: 0,
-            status: 0,
-        },
-        Stage::Open => StageNumbers {
-            stage: 7,
-            error: 0,
-            status: 0,
-        },
-        Stage::Failed(error) => StageNumbers {
-            stage: 0,
-            error: number(error),
-            status: status(error),
-        },
+    let (stage, error, status) = match stage {
+        Stage::Awaiting(reply) => (reply_number(reply), 0, 0),
+        Stage::Open => (7, 0, 0),
+        Stage::Failed(error) => (0, number(error), status(error)),
+    };
+    StageNumbers {
+        stage,
+        error,
+        status,
     }
 }
 
@@ -138,27 +112,24 @@ pub fn session_of(raw: RawSession) -> Session
 {
     let hold = raw.hold;
     let bytes = raw.requests;
-    let stage = stage_of(raw.stage, raw.error, raw.status);
-    let bound = Bound {
-        kind: kind_of(raw.kind),
-        port: raw.port,
-    };
-    let lengths = Lengths {
-        optimistic: truth(raw.optimistic),
-        first: raw.first,
-        authentication: raw.authentication,
-        proxy: raw.proxy,
-    };
     Session {
-        stage: stage,
+        stage: stage_of(raw.stage, raw.error, raw.status),
         started: truth(raw.started),
         held: raw.held,
-        hold: hold,
-        bound: bound,
+        hold,
+        bound: Bound {
+            kind: kind_of(raw.kind),
+            port: raw.port,
+        },
         attempts: raw.attempts,
         requests: Requests {
-            lengths: lengths,
-            bytes: bytes,
+            lengths: Lengths {
+                optimistic: truth(raw.optimistic),
+                first: raw.first,
+                authentication: raw.authentication,
+                proxy: raw.proxy,
+            },
+            bytes,
         },
     }
 }
@@ -167,64 +138,51 @@ pub fn session_of(raw: RawSession) -> Session
 pub fn raw_of(session: Session) -> RawSession
     ensures { result ≡ raw_of session }
 {
-    let stage = session.stage;
-    let numbers = stage_numbers(stage);
-    let bound = session.bound;
-    let kind = bound.kind;
+    let numbers = stage_numbers(session.stage);
+    let lengths = session.requests.lengths;
     let hold = session.hold;
-    let requests = session.requests;
-    let lengths = requests.lengths;
-    let bytes = requests.bytes;
+    let requests = session.requests.bytes;
     RawSession {
         attempts: session.attempts,
         held: session.held,
         first: lengths.first,
         authentication: lengths.authentication,
         proxy: lengths.proxy,
-        port: bound.port,
-        kind: kind_number(kind),
+        port: session.bound.port,
+        kind: kind_number(session.bound.kind),
         stage: numbers.stage,
         error: numbers.error,
         status: numbers.status,
         started: bit(session.started),
         optimistic: bit(lengths.optimistic),
-        hold: hold,
-        requests: bytes,
+        hold,
+        requests,
     }
 }
 
 pub fn outcome_of(outcome: Outcome) -> RawOutcome
     ensures { result ≡ outcome_of outcome }
 {
-    match outcome {
-        Outcome::Waiting => RawOutcome {
-            state: 0,
-            number: 0,
-            status: 0,
-        },
-        Outcome::Open => RawOutcome {
-            state: 1,
-            number: 0,
-            status: 0,
-        },
-        Outcome::Failed(error) => RawOutcome {
-            state: 2,
-            number: number(error),
-            status: status(error),
-        },
+    let (state, number, status) = match outcome {
+        Outcome::Waiting => (0, 0, 0),
+        Outcome::Open => (1, 0, 0),
+        Outcome::Failed(error) => (2, number(error), status(error)),
+    };
+    RawOutcome {
+        state,
+        number,
+        status,
     }
 }
 
-pub fn step(answer: Answer, session: Session, used: usize, sent: usize) -> RawStep
+pub fn step(answer: Result<(), SocksError>, session: Session, used: usize, sent: usize) -> RawStep
     ensures { result ≡ step_of answer session used sent }
 {
-    let stage = session.stage;
-    let outcome = client_stages::outcome::outcome(stage);
     RawStep {
         session: raw_of(session),
-        used: used,
-        sent: sent,
+        used,
+        sent,
         answer: answer_number(answer),
-        outcome: outcome_of(outcome),
+        outcome: outcome_of(session.outcome()),
     }
 }

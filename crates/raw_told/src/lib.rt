@@ -8,7 +8,7 @@ ghost use Rattle.client_session.specs.Session.{write_bound};
 ghost use Rattle.raw_session.specs.Raw.{session_of};
 ghost use Rattle.raw_told.specs.Told.{raw_outcome, raw_bound, raw_attempts, Tells};
 
-use error_numbers::answer_number;
+use error_numbers::number;
 use raw_numbers::kind_number;
 use raw_session::{RawOutcome, RawSession, outcome_of, session_of};
 
@@ -21,6 +21,7 @@ pub struct RawAddress {
     pub bytes: [u8; 255],
 }
 
+// The C interface has its answer as a number.
 #[repr(C)]
 #[derive(Clone, Copy)]
 pub struct RawText {
@@ -31,22 +32,19 @@ pub struct RawText {
 pub fn outcome(session: RawSession) -> RawOutcome
     ensures { result ≡ raw_outcome session }
 {
-    let before = session_of(session);
-    outcome_of(before.outcome())
+    outcome_of(session_of(session).outcome())
 }
 
 pub fn bound(session: RawSession) -> RawAddress
     ensures { result ≡ raw_bound session }
 {
-    let before = session_of(session);
-    let address = before.bound();
-    let kind = address.kind;
+    let address = session_of(session).bound();
     let bytes = address.bytes;
     RawAddress {
         port: address.port,
-        kind: kind_number(kind),
+        kind: kind_number(address.kind),
         len: address.len,
-        bytes: bytes,
+        bytes,
     }
 }
 
@@ -54,12 +52,12 @@ pub fn bound_text(session: RawSession, text: &mut [u8]) -> RawText
     ensures tells { Tells (write_bound (session_of session) text.old) result text.new }
     ensures enough { 261 ≤ length text.old → result.answer ≡ 18 → ⊥ }
 {
-    let before = session_of(session);
-    let written = before.bound_text(text);
-    let answer = written.answer;
-    RawText {
-        len: written.len,
-        answer: answer_number(answer),
+    match session_of(session).bound_text(text) {
+        Ok(len) => RawText { len, answer: 0 },
+        Err(error) => RawText {
+            len: 0,
+            answer: number(error),
+        },
     }
 }
 

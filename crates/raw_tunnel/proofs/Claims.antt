@@ -6,7 +6,7 @@ use mathlib.Core.Logic.{◌⊎◌, inl}
 use mathlib.Core.List.{List, []}
 use lib.ListN.{length, take, drop}
 use lib.Dec.{lit<}
-use Rattle.protocol.specs.declared.Answer.TheVariants.{Refused}
+use Rattle.protocol.specs.Answers.{Refused}
 use Rattle.protocol.specs.declared.SocksError.{SocksError}
 use Rattle.protocol.specs.declared.Version.{Version}
 use Rattle.protocol.specs.Bytes.{BytePieces}

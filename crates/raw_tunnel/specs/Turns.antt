@@ -1,6 +1,6 @@
 -- Of any raw session: the numbers that its calls answer, lent 1,024 bytes. 1 is not met.
 use Rattle.std.specs.Prelude.{ℕ, ◌<◌, ◌≡◌, List, [], ◌∷◌, length, drop}
-use Rattle.protocol.specs.declared.Answer.TheVariants.{Refused}
+use Rattle.protocol.specs.Answers.{Refused}
 use Rattle.protocol.specs.declared.SocksError.{SocksError}
 use Rattle.protocol.specs.Opening.{V5, V4, Condition, ◌↣◌, conditions5, conditions4, Answers}
 use Rattle.address_format.specs.endpoint.Text.{bound_text}

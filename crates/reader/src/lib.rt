@@ -15,6 +15,7 @@ pub struct Reader<'a, 'b> {
 }
 
 // A byte, whether it came, and the place behind it. Where none came the byte is 0, and the place stays.
+// Not an Option: a row of takes without a branch is faster (docs/DECISIONS.md, "Leaves").
 #[derive(Clone, Copy)]
 pub struct Took {
     pub byte: u8,
@@ -73,6 +74,7 @@ pub fn port_at(held: &[u8], piece: &[u8], at: usize) -> u16
 }
 
 // Whether so many bytes came, and the place behind them. Where they have not all come the place stays.
+// Not an Option: a row of takes without a branch is faster (docs/DECISIONS.md, "Leaves").
 #[derive(Clone, Copy)]
 pub struct Passed {
     pub came: bool,
@@ -102,6 +104,7 @@ impl<'a, 'b> Reader<'a, 'b> {
 }
 
 // Two bytes, whether all came that were to be taken, and the place behind what came.
+// Not an Option: a row of takes without a branch is faster (docs/DECISIONS.md, "Leaves").
 #[derive(Clone, Copy)]
 pub struct Two {
     pub first: u8,
@@ -129,6 +132,7 @@ pub fn two_at(held: &[u8], piece: &[u8], at: usize) -> Two
     }
 }
 
+// as `Two`: one take of N bytes into an Option was tried, and is slower
 #[derive(Clone, Copy)]
 pub struct Three {
     pub first: u8,

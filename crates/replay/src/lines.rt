@@ -1,6 +1,6 @@
 // Cases of proxy lines (F-9): what a line says, or where it goes wrong.
 use input::places::part;
-use protocol::{Answer, CREDENTIAL, Version};
+use protocol::{CREDENTIAL, Version};
 use proxy_url::ProxyLine;
 use report::{Writer, put_byte, put_field, put_number};
 
@@ -76,9 +76,7 @@ pub fn run(line: &[u8], writer: Writer, text: &mut [u8]) -> Writer {
     let read = proxy_url::read(line);
     let answer = read.answer;
     match answer {
-        Answer::Accepted => put_read(writer, text, line, read),
-        Answer::Refused(error) => {
-            put_refused(writer, text, error_numbers::number(error), read.place)
-        }
+        Ok(()) => put_read(writer, text, line, read),
+        Err(error) => { put_refused(writer, text, error_numbers::number(error), read.place) }
     }
 }

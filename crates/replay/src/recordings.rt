@@ -1,11 +1,11 @@
 // Cases of captures (F-10): one held against its opening, and a second one held against the first.
-use captures::{Compared, v4, v5};
+use captures::{v4, v5};
 use cases::Opening;
 use input::places::{byte_at, past, text_at, text_end};
-use protocol::Answer;
+use protocol::SocksError;
 use report::{Writer, put_byte, put_bytes, put_number};
 
-fn check(s: &[u8], opening: Opening, capture: &[u8]) -> Answer {
+fn check(s: &[u8], opening: Opening, capture: &[u8]) -> Result<(), SocksError> {
     let config = opening.config;
     let port = opening.port;
     let host = text_at(s, opening.host);
@@ -19,7 +19,7 @@ fn check(s: &[u8], opening: Opening, capture: &[u8]) -> Answer {
     v5::check_chosen(config, host, port, user, password, chosen, capture)
 }
 
-fn compare(s: &[u8], opening: Opening, first: &[u8], second: &[u8]) -> Compared {
+fn compare(s: &[u8], opening: Opening, first: &[u8], second: &[u8]) -> Result<bool, SocksError> {
     let config = opening.config;
     let port = opening.port;
     let host = text_at(s, opening.host);
@@ -34,7 +34,7 @@ fn compare(s: &[u8], opening: Opening, first: &[u8], second: &[u8]) -> Compared 
 }
 
 // ANSWER, and `-` for ALIKE.
-fn put_answer(start: Writer, text: &mut [u8], answer: Answer) -> Writer {
+fn put_answer(start: Writer, text: &mut [u8], answer: Result<(), SocksError>) -> Writer {
     let writer = put_number(start, text, error_numbers::answer_number(answer) as u64);
     put_bytes(writer, text, b" -")
 }
@@ -48,11 +48,10 @@ fn put_alike(start: Writer, text: &mut [u8], alike: bool) -> Writer {
     put_byte(writer, text, b'0')
 }
 
-fn put_compared(writer: Writer, text: &mut [u8], compared: Compared) -> Writer {
-    let answer = compared.answer;
-    match answer {
-        Answer::Accepted => put_alike(writer, text, compared.alike),
-        Answer::Refused(error) => put_answer(writer, text, Answer::Refused(error)),
+fn put_compared(writer: Writer, text: &mut [u8], compared: Result<bool, SocksError>) -> Writer {
+    match compared {
+        Ok(alike) => put_alike(writer, text, alike),
+        Err(error) => put_answer(writer, text, Err(error)),
     }
 }
 

@@ -70,9 +70,10 @@ fn end(session: Session) -> Turn {
 
 // The text of the bound address.
 fn bound_text(session: Session, out: &mut [u8]) -> Call {
-    let written = session.bound_text(out);
-    let answer = written.answer;
-    call_of(answer, 0, written.len)
+    match session.bound_text(out) {
+        Ok(len) => call_of(Ok(()), 0, len),
+        Err(error) => call_of(Err(error), 0, 0),
+    }
 }
 
 // The number of attempts.

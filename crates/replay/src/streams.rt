@@ -57,13 +57,13 @@ fn produce(s: &[u8], at: usize, buffer: &mut [u8]) -> Produced {
 // ANSWER and STREAM.
 fn put_produced(writer: Writer, text: &mut [u8], produced: Produced, kept: &[u8]) -> Writer {
     match produced {
-        Produced::Refused(error) => put_bytes(
+        Err(error) => put_bytes(
             put_number(writer, text, error_numbers::number(error) as u64),
             text,
             b" -",
         ),
-        Produced::NoStream => put_bytes(writer, text, b"none -"),
-        Produced::Stream(n) => put_field(put_bytes(writer, text, b"0 "), text, part(kept, 0, n)),
+        Ok(None) => put_bytes(writer, text, b"none -"),
+        Ok(Some(n)) => put_field(put_bytes(writer, text, b"0 "), text, part(kept, 0, n)),
     }
 }
 

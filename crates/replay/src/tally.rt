@@ -1,7 +1,7 @@
 // What is told of a case's calls, whatever they are calls of: CALLS goes out as they come, SENT and RESTS are kept to the line's end.
 use cases::lent_at;
 use input::places::{byte_at, part, past, store, text_at};
-use protocol::Answer;
+use protocol::SocksError;
 use report::{State, Writer, put_byte, put_field, put_number, put_state};
 
 // What is kept: the output lent to a call, the bytes sent by all calls, and the rests.
@@ -31,7 +31,7 @@ pub struct Call {
     pub sent: usize,
 }
 
-pub fn call_of(answer: Answer, used: usize, sent: usize) -> Call {
+pub fn call_of(answer: Result<(), SocksError>, used: usize, sent: usize) -> Call {
     Call {
         number: error_numbers::answer_number(answer) as u64,
         used,

@@ -8,30 +8,33 @@ ghost use Rattle.protocol.specs.declared.Reply.TheVariants as Reply;
 use crate::verdicts::{
     authentication_verdict, head_allowed, negotiation_verdict, rest_size, type_allowed,
 };
-use buffers::write::{least, wide};
-use protocol::{AuthMethod, Decision, SocksError, Verdict};
+use protocol::{AuthMethod, SocksError};
 use reader::{bytes_at, three_at, two_at};
 
 // NegotiationRes: the version and the method chosen, in answer to the method sent.
-pub fn read_negotiation_res(held: &[u8], piece: &[u8], sent: AuthMethod) -> Decision
+pub fn read_negotiation_res(
+    held: &[u8],
+    piece: &[u8],
+    sent: AuthMethod,
+) -> Option<(usize, Result<(), SocksError>)>
     ensures { result ≡ decide (Reply.NegotiationRes sent) (held.now ++ piece.now) }
 {
     let p = two_at(held, piece, 0);
     if p.came {
-        return Decision::Decided(p.at, negotiation_verdict(sent, p.first, p.second));
+        return Some((p.at, negotiation_verdict(sent, p.first, p.second)));
     }
-    Decision::Undecided
+    None
 }
 
 // AuthenticationRes: the version and a status.
-pub fn read_authentication_res(held: &[u8], piece: &[u8]) -> Decision
+pub fn read_authentication_res(held: &[u8], piece: &[u8]) -> Option<(usize, Result<(), SocksError>)>
     ensures { result ≡ decide Reply.AuthenticationRes (held.now ++ piece.now) }
 {
     let p = two_at(held, piece, 0);
     if p.came {
-        return Decision::Decided(p.at, authentication_verdict(p.first, p.second));
+        return Some((p.at, authentication_verdict(p.first, p.second)));
     }
-    Decision::Undecided
+    None
 }
 
 // Whether the bytes from a place to another are UTF-8.
@@ -40,8 +43,8 @@ fn is_utf8_at(held: &[u8], piece: &[u8], from: usize, to: usize) -> bool
     ensures { result ≡ is_utf8 (take (to - from) (drop from (held.now ++ piece.now))) }
 {
     let n = held.len();
-    let a = least(from, n);
-    let b = least(to, n);
+    let a = from.min(n);
+    let b = to.min(n);
     let c = from - a;
     let d = to - b;
     utf8::text::is_utf8_in_two(&held[a..b], &piece[c..d])
@@ -55,37 +58,51 @@ fn name_allowed(held: &[u8], piece: &[u8], at: usize, atyp: u8, len: u8) -> bool
     if atyp != 0x03 {
         return true;
     }
-    is_utf8_at(held, piece, at, at + wide(len))
+    is_utf8_at(held, piece, at, at + usize::from(len))
 }
 
 // How a whole ProxyRes is judged, whose name would stand at a place.
-fn proxy_verdict(held: &[u8], piece: &[u8], at: usize, rep: u8, atyp: u8, len: u8) -> Verdict
+fn proxy_verdict(
+    held: &[u8],
+    piece: &[u8],
+    at: usize,
+    rep: u8,
+    atyp: u8,
+    len: u8,
+) -> Result<(), SocksError>
     requires { (at ≡ 5) × (atyp ≡ 0x03 → at + len ≤ length (held.now ++ piece.now)) }
     ensures { result ≡ proxy_verdict rep atyp (take len (drop at (held.now ++ piece.now))) }
 {
     if name_allowed(held, piece, at, atyp, len) {
         if rep != 0x00 {
-            return Verdict::Bad(SocksError::Command(rep));
+            return Err(SocksError::Command(rep));
         }
-        return Verdict::Good;
+        return Ok(());
     }
-    Verdict::Bad(SocksError::Parsing)
+    Err(SocksError::Parsing)
 }
 
 // A ProxyRes behind its first five bytes, whose type may stand.
-fn whole_at(held: &[u8], piece: &[u8], at: usize, rep: u8, atyp: u8, len: u8) -> Decision
+fn whole_at(
+    held: &[u8],
+    piece: &[u8],
+    at: usize,
+    rep: u8,
+    atyp: u8,
+    len: u8,
+) -> Option<(usize, Result<(), SocksError>)>
     requires { (at ≡ 5) × (rep ≡ byte (held.now ++ piece.now) 1) × (atyp ≡ byte (held.now ++ piece.now) 3) × (len ≡ byte (held.now ++ piece.now) 4) }
     ensures { result ≡ whole_at (proxy_size atyp len) (held.now ++ piece.now) }
 {
     let p = bytes_at(held, piece, at, rest_size(atyp, len));
     if p.came {
-        return Decision::Decided(p.at, proxy_verdict(held, piece, at, rep, atyp, len));
+        return Some((p.at, proxy_verdict(held, piece, at, rep, atyp, len)));
     }
-    Decision::Undecided
+    None
 }
 
 // A ProxyRes from its type on, whose head may stand.
-fn type_at(held: &[u8], piece: &[u8], at: usize, rep: u8) -> Decision
+fn type_at(held: &[u8], piece: &[u8], at: usize, rep: u8) -> Option<(usize, Result<(), SocksError>)>
     requires { (at ≡ 3) × (rep ≡ byte (held.now ++ piece.now) 1) }
     ensures { result ≡ type_at (held.now ++ piece.now) }
 {
@@ -94,13 +111,13 @@ fn type_at(held: &[u8], piece: &[u8], at: usize, rep: u8) -> Decision
         if type_allowed(t.first, t.second) {
             return whole_at(held, piece, t.at, rep, t.first, t.second);
         }
-        return Decision::Decided(t.at, Verdict::Bad(SocksError::Parsing));
+        return Some((t.at, Err(SocksError::Parsing)));
     }
-    Decision::Undecided
+    None
 }
 
 // ProxyRes: the version, a status, a reserved byte, the address field, the port. Decided at 3 bytes, at 5, or whole.
-pub fn read_proxy_res(held: &[u8], piece: &[u8]) -> Decision
+pub fn read_proxy_res(held: &[u8], piece: &[u8]) -> Option<(usize, Result<(), SocksError>)>
     ensures { result ≡ decide Reply.ProxyRes (held.now ++ piece.now) }
 {
     let h = three_at(held, piece, 0);
@@ -108,7 +125,7 @@ pub fn read_proxy_res(held: &[u8], piece: &[u8]) -> Decision
         if head_allowed(h.first, h.second, h.third) {
             return type_at(held, piece, h.at, h.second);
         }
-        return Decision::Decided(h.at, Verdict::Bad(SocksError::Parsing));
+        return Some((h.at, Err(SocksError::Parsing)));
     }
-    Decision::Undecided
+    None
 }

@@ -38,27 +38,25 @@ pub fn finish(writer: Writer, text: &[u8]) {
 
 // A place for a byte: a full buffer is written first.
 fn room(writer: Writer, text: &[u8]) -> usize {
-    let at = writer.at;
-    if at < text.len() {
-        return at;
+    if writer.at < text.len() {
+        return writer.at;
     }
     write_all(writer.file, text);
     0
 }
 
 pub fn put_byte(writer: Writer, text: &mut [u8], b: u8) -> Writer {
-    let file = writer.file;
     let at = room(writer, text);
     Writer {
-        file,
         at: input::places::store(text, at, b),
+        ..writer
     }
 }
 
 pub fn put_bytes(start: Writer, text: &mut [u8], s: &[u8]) -> Writer {
     let mut writer = start;
-    for i in 0..s.len() {
-        writer = put_byte(writer, text, s[i]);
+    for &b in s {
+        writer = put_byte(writer, text, b);
     }
     writer
 }
@@ -70,15 +68,15 @@ fn put_hex_byte(writer: Writer, text: &mut [u8], b: u8) -> Writer {
 
 pub fn put_hex(start: Writer, text: &mut [u8], s: &[u8]) -> Writer {
     let mut writer = start;
-    for i in 0..s.len() {
-        writer = put_hex_byte(writer, text, s[i]);
+    for &b in s {
+        writer = put_hex_byte(writer, text, b);
     }
     writer
 }
 
 // Bytes in hexadecimal, or `-` if there are none.
 pub fn put_field(writer: Writer, text: &mut [u8], s: &[u8]) -> Writer {
-    if s.len() == 0 {
+    if s.is_empty() {
         return put_byte(writer, text, b'-');
     }
     put_hex(writer, text, s)
@@ -105,15 +103,13 @@ fn put_outcome(writer: Writer, text: &mut [u8], state: State) -> Writer {
         State::Waiting => put_bytes(writer, text, b"waiting"),
         State::Asked => put_bytes(writer, text, b"asked"),
         State::Open => put_byte(writer, text, b'0'),
-        State::Failed(error) => put_number(writer, text, error_numbers::number(error) as u64),
+        State::Failed(error) => put_number(writer, text, u64::from(error_numbers::number(error))),
     }
 }
 
 fn status_of(state: State) -> u8 {
     match state {
-        State::Waiting => 0,
-        State::Asked => 0,
-        State::Open => 0,
+        State::Waiting | State::Asked | State::Open => 0,
         State::Failed(error) => error_numbers::status(error),
     }
 }
@@ -122,5 +118,5 @@ fn status_of(state: State) -> u8 {
 pub fn put_state(writer: Writer, text: &mut [u8], state: State) -> Writer {
     let told = put_outcome(writer, text, state);
     let next = put_byte(told, text, b' ');
-    put_number(next, text, status_of(state) as u64)
+    put_number(next, text, u64::from(status_of(state)))
 }

@@ -42,5 +42,5 @@ pub fn put_name(out: &mut [u8], at: usize, host: &[u8], port: u16) -> usize
 pub fn announces_name(ip: [u8; 16]) -> bool
     ensures { result ≡ announces (take 4 ip) }
 {
-    ip[0] == 0 && (ip[1] == 0 && (ip[2] == 0 && 0 < ip[3]))
+    matches!(ip, [0, 0, 0, 1..=255, ..])
 }

@@ -7,8 +7,7 @@ use mathlib.Core.List.{List, [], ◌∷◌, ◌++◌, map, append_assoc}
 use lib.ListN.{length, take}
 use lib.Seq.{take-append_seam}
 use Rattle.protocol.specs.declared.AuthMethod.TheVariants.{UserPass}
-use Rattle.protocol.specs.declared.Answer as code
-use Rattle.protocol.specs.declared.Answer.TheVariants.{Accepted, Refused}
+use Rattle.protocol.specs.Answers as code
 use Rattle.protocol.specs.Requests.{negotiation_req, authentication_req, proxy_req}
 use Rattle.protocol.specs.Bound.{unbound}
 use Rattle.protocol.specs.Opening.{Opening, v5, v4, no_auth, user_pass, first_reply, at_opening, Limits}
@@ -111,13 +110,13 @@ pub record OpenedAs (a : routing.Route) (out : List ℕ) : Type 0 where
   pub few : length later ≤ 7
   pub is : opening a out ≡ begins (started_for first later) (first_of (first_reply first) (kept_by first)) out
 
-accepted_by : (x : code.Answer) (os : List Opening) (out : List ℕ) → (open_by x os out).answer ≡ Accepted
-    → (x ≡ Accepted) × ((o : Opening) × (rest : List Opening) × (os ≡ o ∷ rest) × (open_by x os out ≡ begins (started_for o rest) (first_of (first_reply o) (kept_by o)) out))
-accepted_by Accepted [] out q = absurd (clash (sym q))
-accepted_by Accepted (o ∷ os) out q = (refl, (o, os, refl, refl))
-accepted_by (Refused e) os out q = absurd (clash (sym q))
+accepted_by : (x : code.Answer) (os : List Opening) (out : List ℕ) → (open_by x os out).answer ≡ code.Accepted
+    → (x ≡ code.Accepted) × ((o : Opening) × (rest : List Opening) × (os ≡ o ∷ rest) × (open_by x os out ≡ begins (started_for o rest) (first_of (first_reply o) (kept_by o)) out))
+accepted_by code.Accepted [] out q = absurd (clash (sym q))
+accepted_by code.Accepted (o ∷ os) out q = (refl, (o, os, refl, refl))
+accepted_by (code.Refused e) os out q = absurd (clash (sym q))
 
-module _ (a : routing.Route) (out : List ℕ) (q : (opening a out).answer ≡ Accepted) where
+module _ (a : routing.Route) (out : List ℕ) (q : (opening a out).answer ≡ code.Accepted) where
   pub opened_as : OpenedAs a out
   unfolding opening
   opened_as =
@@ -136,7 +135,7 @@ module _ (a : routing.Route) (out : List ℕ) (q : (opening a out).answer ≡ Ac
 -- its last sentence, on a route's attempts
 abbrev pub Attempted : routing.Route → Type 0
 Attempted a =
-    (out : List ℕ) → (opening a out).answer ≡ Accepted → (ds : List Delivery) → BytePieces ds
+    (out : List ℕ) → (opening a out).answer ≡ code.Accepted → (ds : List Delivery) → BytePieces ds
     → (tunnel_of (openings a) (opening a out).session (take (opening a out).sent (opening a out).output) ds).session.attempts
     ≡ attempts_in_turn (openings a) (lending (openings a) ds) % 2 ^ 64
 

@@ -4,8 +4,7 @@ use native.Mathlib.Omega.{arith}
 use mathlib.Core.Path.{◌≡◌, refl, sym, ◌∙◌}
 use mathlib.Core.List.{List, [], ◌∷◌}
 use lib.ListN.{length, length-map}
-use Rattle.protocol.specs.declared.Answer as code
-use Rattle.protocol.specs.declared.Answer.TheVariants.{Accepted, Refused}
+use Rattle.protocol.specs.Answers as code
 use Rattle.protocol.specs.Opening.{Opening}
 use Rattle.protocol.proofs.Openings.{clash}
 use Rattle.route_spec.specs.Route as routing
@@ -18,10 +17,10 @@ use Rattle.route_session.specs.calls.Calls.{room_in, open_by, opening}
 
 -- ---- an opening: 21, then 1, then its openings' own numbers
 
-by_answer : (x : code.Answer) (os : List Opening) (out : List ℕ) → (x ≡ Accepted → 0 < length os) → (open_by x os out).answer ≡ x
-by_answer Accepted [] out h = absurd (omega (arith, h refl))
-by_answer Accepted (o ∷ os) out h = refl
-by_answer (Refused e) os out h = refl
+by_answer : (x : code.Answer) (os : List Opening) (out : List ℕ) → (x ≡ code.Accepted → 0 < length os) → (open_by x os out).answer ≡ x
+by_answer code.Accepted [] out h = absurd (omega (arith, h refl))
+by_answer code.Accepted (o ∷ os) out h = refl
+by_answer (code.Refused e) os out h = refl
 
 pub openings_each : (a : routing.Route) → length (openings a) ≡ length a.proxies
 openings_each a = length-map (asked a) opening_for ∙ asked_each a.proxies a.host a.port
@@ -32,13 +31,13 @@ module _ (a : routing.Route) (out : List ℕ) where
   unfolding opening
   opening_answers = by_answer (check a (length out)) (openings a) out (λ q. rw (openings_each a) (accepted_has a (length out) q).some)
 
-by_room : (x : code.Answer) (os : List Opening) (out : List ℕ) → (open_by x os out).answer ≡ Accepted → length os ≤ 8 → room_in (open_by x os out).session ≡ room_for (length os)
-by_room Accepted [] out q h = absurd (clash (sym q))
-by_room Accepted (o ∷ os) out q h = omega arith
-by_room (Refused d) os out q h = absurd (clash (sym q))
+by_room : (x : code.Answer) (os : List Opening) (out : List ℕ) → (open_by x os out).answer ≡ code.Accepted → length os ≤ 8 → room_in (open_by x os out).session ≡ room_for (length os)
+by_room code.Accepted [] out q h = absurd (clash (sym q))
+by_room code.Accepted (o ∷ os) out q h = omega arith
+by_room (code.Refused d) os out q h = absurd (clash (sym q))
 
 -- an accepted opening has one to eight openings, which keep to their limits; enough output was lent, and its deliveries ask for as much
-module _ (a : routing.Route) (out : List ℕ) (q : (opening a out).answer ≡ Accepted) where
+module _ (a : routing.Route) (out : List ℕ) (q : (opening a out).answer ≡ code.Accepted) where
   acceptable : Acceptable a (length out)
   acceptable = accepted_has a (length out) (sym (opening_answers a out) ∙ q)
 

@@ -9,11 +9,9 @@ use lib.ListN.{length, take, drop, replicate, length-replicate}
 use lib.Seq.{take-append_seam}
 use lib.Dec.{leb}
 use borrow.Author.Tests.{le-leb, le-ltb}
-use Rattle.protocol.specs.declared.Port.{Port}
+use Rattle.protocol.specs.Answers as code
 use Rattle.protocol.specs.declared.SocksError.{SocksError}
 use Rattle.protocol.specs.declared.SocksError.TheVariants.{ShortOutput, UnexpectedEof, Settled, OutOfOrder}
-use Rattle.protocol.specs.declared.Answer as code
-use Rattle.protocol.specs.declared.Answer.TheVariants.{Accepted, Refused}
 use Rattle.protocol.specs.declared.Bound.{Bound}
 use Rattle.protocol.specs.Opening.{Opening, v5, v4, no_auth, user_pass, first_reply, Limits}
 use Rattle.protocol.specs.Bound.{unbound, bound_of}
@@ -62,7 +60,7 @@ record Went (a b : Call) (s : Session) : Type 0 where
   session : a.session ≡ b.session
   used : a.used ≡ b.used
   sent : take a.sent a.output ≡ take b.sent b.output
-  accepted : b.answer ≡ Accepted
+  accepted : b.answer ≡ code.Accepted
   going : a.session.started ≡ s.started
   kept : a.session.requests ≡ s.requests
 
@@ -138,7 +136,7 @@ ends_in r = go (is_over r)
   where
     go : (b : Bool)
         → let s = session_in r in
-        let c : Call = cond b (session-calls.refusal Settled s []) (record { answer = Accepted; session = session.packed s (talk.ended (talk.failed UnexpectedEof)); used = 0; sent = 0; output = [] }) in
+        let c : Call = cond b (session-calls.refusal Settled s []) (record { answer = code.Accepted; session = session.packed s (talk.ended (talk.failed UnexpectedEof)); used = 0; sent = 0; output = [] }) in
         ◌≡◌ {A = Told} (record { answer = c.answer; used = 0; sent = []; outcome = session.outcome c.session }) (told session.outcome c)
     go true = refl
     go false = refl
@@ -209,10 +207,10 @@ module _ (o : Opening) (out : List ℕ) where
       go (v5 (user_pass u p) d port b) = omega arith
       go (v4 d port) = omega arith
 
-  opened_one : 1024 ≤ length out → Limits o → Same One (open_by Accepted (o ∷ []) out) (in_two (prepared_by Accepted o) out)
+  opened_one : 1024 ≤ length out → Limits o → Same One (open_by code.Accepted (o ∷ []) out) (in_two (prepared_by code.Accepted o) out)
   opened_one h l = rw (start_roomy h) (refl, started_one l)
 
-  opened_failed : (e : SocksError) → Same (BothFailed e) (open_by (Refused e) (o ∷ []) out) (in_two (prepared_by (Refused e) o) out)
+  opened_failed : (e : SocksError) → Same (BothFailed e) (open_by (code.Refused e) (o ∷ []) out) (in_two (prepared_by (code.Refused e) o) out)
   opened_failed e = (refl, (refl, refl))
 
 prepared_as : (b : Asked) → prepared_for b ≡ prepared_by (check_for b) (opening_for b)
@@ -220,18 +218,18 @@ unfolding prepare5 prepare4
 prepared_as (over5 a) = refl
 prepared_as (over4 a) = refl
 
-unless_none : (x : code.Answer) → unless_refused x Accepted ≡ x
-unless_none Accepted = refl
-unless_none (Refused e) = refl
+unless_none : (x : code.Answer) → unless_refused x code.Accepted ≡ x
+unless_none code.Accepted = refl
+unless_none (code.Refused e) = refl
 
-module _ (p : Proxy) (host : List ℕ) (port : Port) where
+module _ (p : Proxy) (host : List ℕ) (port : code.Port) where
   abbrev a : routing.Route
   a = record { proxies = p ∷ []; host = host; port = port }
 
   abbrev b : Asked
   b = asked_by p.version p host port
 
-  limits_one : check_for b ≡ Accepted → Limits (opening_for b)
+  limits_one : check_for b ≡ code.Accepted → Limits (opening_for b)
   unfolding asked_of
   limits_one q = (each_limits (p ∷ []) host port (q, tt)).0
 
@@ -243,10 +241,10 @@ module _ (p : Proxy) (host : List ℕ) (port : Port) where
   as_single out h ds l = go (check_for b) refl
     where
       go : (x : code.Answer) → check_for b ≡ x → AsOne a b out ds
-      go Accepted q =
+      go code.Accepted q =
           as_one One step_one ends_one a b out (rw (opening_one out h, prepared_as b, q) (opened_one (opening_for b) out h (limits_one q))) ds l
-      go (Refused e) q =
+      go (code.Refused e) q =
           as_one (BothFailed e) (step_failed e) (ends_failed e) a b out (rw (opening_one out h, prepared_as b, q) (opened_failed (opening_for b) out e)) ds l
 
-pub single : (p : Proxy) (host : List ℕ) (port : Port) → Single p host port
+pub single : (p : Proxy) (host : List ℕ) (port : code.Port) → Single p host port
 single = as_single

@@ -10,8 +10,7 @@ use lib.Dec.{leb, lit<}
 use borrow.Author.Tests.{leb-true}
 use Rattle.protocol.specs.declared.SocksError.{SocksError}
 use Rattle.protocol.specs.declared.SocksError.TheVariants.{ShortOutput, UnexpectedEof, Settled}
-use Rattle.protocol.specs.declared.Answer as code
-use Rattle.protocol.specs.declared.Answer.TheVariants.{Accepted, Refused}
+use Rattle.protocol.specs.Answers as code
 use Rattle.protocol.specs.declared.Outcome.TheVariants as outcomes
 use Rattle.protocol.specs.declared.Bound.{Bound}
 use Rattle.protocol.specs.Numbers.{answer_number, outcome_number}
@@ -99,13 +98,13 @@ module _ (r : Route) where
     unfolding deliver
     deliver_number room q =
         rw (answered r out (takes r piece out) refl (is_over r) false (leb (room_in r) (length out)) (leb room (length out)) (λ z w. ap (λ (n : ℕ). leb n (length out)) q))
-        (checked (is_over r) _ Settled 16 _ _ refl (lit< tt) over (checked (not (leb room (length out))) _ ShortOutput 1 Accepted [] refl (lit< tt) (not_long room (length out)) all_passed))
+        (checked (is_over r) _ Settled 16 _ _ refl (lit< tt) over (checked (not (leb room (length out))) _ ShortOutput 1 code.Accepted [] refl (lit< tt) (not_long room (length out)) all_passed))
 
     deliver_untouched : Untouched (deliver r piece out) r out
     unfolding deliver
     deliver_untouched = refuses r out (takes r piece out) refl (is_over r) false (leb (room_in r) (length out))
 
-    deliver_accepts : (deliver r piece out).answer ≡ Accepted → (is_over r ≡ false) × (deliver r piece out ≡ takes r piece out)
+    deliver_accepts : (deliver r piece out).answer ≡ code.Accepted → (is_over r ≡ false) × (deliver r piece out ≡ takes r piece out)
     unfolding deliver
     deliver_accepts = accepts r out (takes r piece out) refl (is_over r) false (leb (room_in r) (length out))
 
@@ -115,10 +114,10 @@ module _ (r : Route) where
         let s = session_in r in
         let few = relayed_few r.hops r.bytes (behind_in r) s piece in
         stays r out (takes r piece out) refl (is_over r) false (leb (room_in r) (length out))
-        (λ q. stand_at Accepted _ _ (relayed r.hops r.bytes (behind_in r) s piece).sent out (omega (arith, few, still_few s.stage s.requests, leb-true (room_in r) (length out) q)))
+        (λ q. stand_at code.Accepted _ _ (relayed r.hops r.bytes (behind_in r) s piece).sent out (omega (arith, few, still_few s.stage s.requests, leb-true (room_in r) (length out) q)))
 
   -- an empty piece in turn leaves the session of the proxy that is spoken to as it is
-  nothing : (out : List ℕ) → (deliver r [] out).answer ≡ Accepted → (((deliver r [] out).used ≡ 0) × ((deliver r [] out).sent ≡ 0)) × Tells (deliver r [] out).session (outcome r) (bound r) r.attempts r.held
+  nothing : (out : List ℕ) → (deliver r [] out).answer ≡ code.Accepted → (((deliver r [] out).used ≡ 0) × ((deliver r [] out).sent ≡ 0)) × Tells (deliver r [] out).session (outcome r) (bound r) r.attempts r.held
   nothing out p =
       let (v, c) = deliver_accepts [] out p in
       let n = relayed_none r.hops r.bytes (behind_in r) (session_in r) refl v in
@@ -131,7 +130,7 @@ module _ (r : Route) where
   abbrev ending : Bool → session-calls.Call
   ending b =
       cond b (session-calls.refusal Settled (session_in r) [])
-      (record { answer = Accepted; session = packed (session_in r) (talk.ended (talk.failed UnexpectedEof)); used = 0; sent = 0; output = [] })
+      (record { answer = code.Accepted; session = packed (session_in r) (talk.ended (talk.failed UnexpectedEof)); used = 0; sent = 0; output = [] })
 
   abbrev ended : session-calls.Call → Call
   ended c = record { answer = c.answer; session = with_session r r.behind c.session; used = 0; sent = 0; output = [] }
@@ -140,23 +139,23 @@ module _ (r : Route) where
   unfolding end session-calls.end
   end_untouched e = go (is_over r)
     where
-      go : (b : Bool) → (ended (ending b)).answer ≡ Refused e → ended (ending b) ≡ refusal e r []
+      go : (b : Bool) → (ended (ending b)).answer ≡ code.Refused e → ended (ending b) ≡ refusal e r []
       go true q = rw (same_error q)
       go false q = absurd (clash q)
 
   end_number : Answers (answer_number (end r).answer) (((outcome r ≡ outcomes.Waiting → ⊥) ↣ 16) ∷ [])
   unfolding end session-calls.end
-  end_number = rw (go (is_over r)) (checked (is_over r) _ Settled 16 Accepted [] refl (lit< tt) over all_passed)
+  end_number = rw (go (is_over r)) (checked (is_over r) _ Settled 16 code.Accepted [] refl (lit< tt) over all_passed)
     where
-      go : (b : Bool) → (ending b).answer ≡ refuse b Settled Accepted
+      go : (b : Bool) → (ending b).answer ≡ refuse b Settled code.Accepted
       go true = refl
       go false = refl
 
-  end_fails : (end r).answer ≡ Accepted → Tells (end r).session (outcomes.Failed UnexpectedEof) no_address r.attempts 0
+  end_fails : (end r).answer ≡ code.Accepted → Tells (end r).session (outcomes.Failed UnexpectedEof) no_address r.attempts 0
   unfolding end session-calls.end
   end_fails = go (is_over r)
     where
-      go : (b : Bool) → (ended (ending b)).answer ≡ Accepted → Tells (ended (ending b)).session (outcomes.Failed UnexpectedEof) no_address r.attempts 0
+      go : (b : Bool) → (ended (ending b)).answer ≡ code.Accepted → Tells (ended (ending b)).session (outcomes.Failed UnexpectedEof) no_address r.attempts 0
       go true q = absurd (clash (sym q))
       go false q = record { outcomes = refl; bounds = refl; attempts = refl; holds = refl }
 
@@ -180,21 +179,21 @@ any_in_turn r = (suc (last_in r.count), omega arith, omega arith, in_turn (room_
 
 -- ---- opening: 21, then 1, then its openings' own numbers
 
-by_fails : (x : code.Answer) (os : List Opening) (out : List ℕ) (e : SocksError) → (open_by x os out).answer ≡ Refused e
+by_fails : (x : code.Answer) (os : List Opening) (out : List ℕ) (e : SocksError) → (open_by x os out).answer ≡ code.Refused e
     → Tells (open_by x os out).session (outcomes.Failed e) no_address 0 0 × ((open_by x os out).sent ≡ 0) × ((open_by x os out).output ≡ out)
-by_fails Accepted [] out e q = (record { outcomes = ap outcomes.Failed (same_error q); bounds = refl; attempts = refl; holds = refl }, refl, refl)
-by_fails Accepted (o ∷ os) out e q = absurd (clash q)
-by_fails (Refused d) os out e q = (record { outcomes = ap outcomes.Failed (same_error q); bounds = refl; attempts = refl; holds = refl }, refl, refl)
+by_fails code.Accepted [] out e q = (record { outcomes = ap outcomes.Failed (same_error q); bounds = refl; attempts = refl; holds = refl }, refl, refl)
+by_fails code.Accepted (o ∷ os) out e q = absurd (clash q)
+by_fails (code.Refused d) os out e q = (record { outcomes = ap outcomes.Failed (same_error q); bounds = refl; attempts = refl; holds = refl }, refl, refl)
 
-by_waiting : (x : code.Answer) (os : List Opening) (out : List ℕ) → (open_by x os out).answer ≡ Accepted → Tells (open_by x os out).session outcomes.Waiting no_address 0 0
-by_waiting Accepted [] out q = absurd (clash (sym q))
-by_waiting Accepted (o ∷ os) out q = record { outcomes = refl; bounds = refl; attempts = refl; holds = refl }
-by_waiting (Refused d) os out q = absurd (clash (sym q))
+by_waiting : (x : code.Answer) (os : List Opening) (out : List ℕ) → (open_by x os out).answer ≡ code.Accepted → Tells (open_by x os out).session outcomes.Waiting no_address 0 0
+by_waiting code.Accepted [] out q = absurd (clash (sym q))
+by_waiting code.Accepted (o ∷ os) out q = record { outcomes = refl; bounds = refl; attempts = refl; holds = refl }
+by_waiting (code.Refused d) os out q = absurd (clash (sym q))
 
-by_behind : (x : code.Answer) (os : List Opening) (out : List ℕ) → (x ≡ Accepted → 1024 ≤ length out) → Behind (open_by x os out) out
-by_behind Accepted [] out h = none_sent _ _ 0 out
-by_behind Accepted (o ∷ os) out h = stand_at Accepted _ 0 (first_of (first_reply o) (kept_by o)) out (omega (arith, h refl, first_room_lem (first_reply o) (kept_by o)))
-by_behind (Refused e) os out h = none_sent _ _ 0 out
+by_behind : (x : code.Answer) (os : List Opening) (out : List ℕ) → (x ≡ code.Accepted → 1024 ≤ length out) → Behind (open_by x os out) out
+by_behind code.Accepted [] out h = none_sent _ _ 0 out
+by_behind code.Accepted (o ∷ os) out h = stand_at code.Accepted _ 0 (first_of (first_reply o) (kept_by o)) out (omega (arith, h refl, first_room_lem (first_reply o) (kept_by o)))
+by_behind (code.Refused e) os out h = none_sent _ _ 0 out
 
 -- a delivery leaves what a route asks
 room_stays : (r : Route) (piece out : List ℕ) → room_in (deliver r piece out).session ≡ room_in r
@@ -212,11 +211,11 @@ room_on n [] r = refl
 room_on n (d ∷ ds) r = room_on n ds (deliver r d.piece d.output).session ∙ room_stays r d.piece d.output
 
 module _ (a : routing.Route) (out : List ℕ) where
-  opening_fails : (e : SocksError) → (opening a out).answer ≡ Refused e → Tells (opening a out).session (outcomes.Failed e) no_address 0 0 × ((opening a out).sent ≡ 0) × ((opening a out).output ≡ out)
+  opening_fails : (e : SocksError) → (opening a out).answer ≡ code.Refused e → Tells (opening a out).session (outcomes.Failed e) no_address 0 0 × ((opening a out).sent ≡ 0) × ((opening a out).output ≡ out)
   unfolding opening
   opening_fails = by_fails (check a (length out)) (openings a) out
 
-  opening_waits : (opening a out).answer ≡ Accepted → Tells (opening a out).session outcomes.Waiting no_address 0 0
+  opening_waits : (opening a out).answer ≡ code.Accepted → Tells (opening a out).session outcomes.Waiting no_address 0 0
   unfolding opening
   opening_waits = by_waiting (check a (length out)) (openings a) out
 

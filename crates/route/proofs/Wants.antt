@@ -13,7 +13,7 @@ use Rattle.protocol.specs.declared.Bound.{Bound}
 use Rattle.protocol.specs.declared.Outcome.TheVariants.{Waiting, Open}
 use Rattle.protocol.specs.declared.Reply.{Reply}
 use Rattle.protocol.specs.declared.Reply.TheVariants.{NegotiationRes, AuthenticationRes, ProxyRes, Response}
-use Rattle.protocol.specs.declared.Decision.TheVariants.{Undecided}
+use Rattle.protocol.specs.Answers.{Undecided}
 use Rattle.protocol.specs.Bytes.{Bytes, BytePieces}
 use Rattle.protocol.specs.Bound.{Endpoint, unbound}
 use Rattle.protocol.specs.Opening.{no_auth, user_pass, Opening, v5, v4, first_reply}

@@ -1,9 +1,7 @@
 -- F-5's promise, one claim over every list of deliveries to a route that was accepted: a field for each sentence.
 use Rattle.std.specs.Prelude.{ℕ, ◌+◌, ◌-◌, ◌%◌, ◌^◌, ◌≤◌, ◌≡◌, ◌↔◌, cond, length, take, drop}
 use mathlib.Core.List.{List, [], ◌∷◌, ◌++◌, Memᴰ}
-use Rattle.protocol.specs.declared.Port.{Port}
-use Rattle.protocol.specs.declared.Answer as code
-use Rattle.protocol.specs.declared.Answer.TheVariants.{Accepted}
+use Rattle.protocol.specs.Answers as code
 use Rattle.protocol.specs.declared.Outcome.{Outcome}
 use Rattle.protocol.specs.declared.Outcome.TheVariants.{Waiting, Open, Failed}
 use Rattle.protocol.specs.Bound.{address_of}
@@ -91,7 +89,7 @@ pub record Routed (os : List Opening) (r : Route) (sent : List ℕ) (ds : List D
 -- for every route whose opening is accepted, any output lent to that, and every list of deliveries
 abbrev pub Through : routing.Route → Type 0
 Through a =
-    (out : List ℕ) → (opening a out).answer ≡ Accepted → (ds : List Delivery) → BytePieces ds
+    (out : List ℕ) → (opening a out).answer ≡ code.Accepted → (ds : List Delivery) → BytePieces ds
     → Routed (openings a) (opening a out).session (take (opening a out).sent (opening a out).output) ds
 
 -- ---- a route of one proxy, and that proxy's session
@@ -127,7 +125,7 @@ pub record AsOne (a : routing.Route) (b : Asked) (out : List ℕ) (ds : List Del
       ≡ told session.outcome (session-calls.end (after (session_receiver 1024) (in_two (prepared_for b) out).session ds))
 
 -- for every route of one proxy, any output of 1,024 bytes or more, and every list of deliveries that lend as much
-abbrev pub Single : Proxy → List ℕ → Port → Type 0
+abbrev pub Single : Proxy → List ℕ → code.Port → Type 0
 Single p host port =
     (out : List ℕ) → 1024 ≤ length out → (ds : List Delivery) → Lent ds
     → AsOne (record { proxies = p ∷ []; host = host; port = port }) (asked_by p.version p host port) out ds

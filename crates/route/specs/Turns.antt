@@ -1,7 +1,7 @@
 -- F-5's checks: what opening a route returns; and of any route which call is in turn, what a refused one leaves, and what an accepted one does beside what F-5's promise says.
 use Rattle.std.specs.Prelude.{ℕ, ◌≤◌, ◌<◌, ◌≡◌, List, [], ◌∷◌, length}
 use Rattle.protocol.specs.declared.Address.{Address}
-use Rattle.protocol.specs.declared.Answer.TheVariants.{Accepted, Refused}
+use Rattle.protocol.specs.Answers.{Accepted, Refused}
 use Rattle.protocol.specs.declared.Outcome.{Outcome}
 use Rattle.protocol.specs.declared.Outcome.TheVariants.{Waiting, Failed}
 use Rattle.protocol.specs.declared.SocksError.{SocksError}

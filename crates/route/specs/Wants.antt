@@ -1,6 +1,6 @@
 -- How many bytes may be read without reading past the handshake: what is promised of a route's `wants`.
 use Rattle.std.specs.Prelude.{ℕ, ◌+◌, ◌≤◌, ◌≡◌, List, [], ◌∷◌, ◌++◌, length}
-use Rattle.protocol.specs.declared.Answer.TheVariants.{Accepted}
+use Rattle.protocol.specs.Answers.{Accepted}
 use Rattle.protocol.specs.declared.Outcome.TheVariants.{Waiting, Open}
 use Rattle.protocol.specs.Bytes.{Bytes, BytePieces}
 use Rattle.protocol.specs.Bound.{Endpoint}

@@ -1,7 +1,8 @@
 -- F-5: a delivery to a route's proxies, each a session of its own: the one that is spoken to takes the piece; once it is open the next is begun, and takes what it left.
-use Rattle.std.specs.Prelude.{◌≡◌, ℕ, zero, suc, ◌+◌, ◌-◌, ◌*◌, ◌^◌, ◌<◌, ◌≤◌, Bool, true, false, cond, List, ◌++◌, length, take, drop, replicate, nat_lt, slice_index_or}
+use Rattle.std.specs.Prelude.{◌≡◌, ℕ, zero, suc, ◌+◌, ◌-◌, ◌*◌, ◌^◌, ◌<◌, ◌≤◌, true, cond, List, ◌++◌, length, take, drop, replicate, slice_index_or}
 use Rattle.protocol.specs.declared.AuthMethod.TheVariants.{NoAuth}
 use Rattle.protocol.specs.declared.Reply.TheVariants.{NegotiationRes}
+use Rattle.protocol.specs.Bound.{unbound, bound_of}
 use Rattle.client_stages.specs.declared.due.Stage.{Stage}
 use Rattle.client_stages.specs.declared.due.Stage.TheVariants.{Awaiting, Open, Failed}
 use Rattle.client_stages.specs.declared.due.Lengths.{Lengths}
@@ -14,7 +15,6 @@ use Rattle.buffers.specs.write.Written.{Wrote}
 use Rattle.route_delivery.specs.declared.Hop.{Hop}
 use Rattle.route_delivery.specs.declared.Spot.{Spot}
 use Rattle.route_delivery.specs.declared.Relayed.{Relayed}
-use Rattle.route_delivery.specs.declared.Stepped.{Stepped}
 
 -- ---- what a route keeps of the proxy with an index; the last one's is 0. One that it lacks keeps nothing
 
@@ -77,11 +77,6 @@ relayed hops bytes (suc n) s piece =
 
 -- ---- as the code has it
 
-abbrev pub goes_on : Stage → ℕ → Bool
-goes_on (Awaiting e) n = false
-goes_on Open n = nat_lt 0 n
-goes_on (Failed x) n = false
-
 -- a spot among the proxies, and the session that it stands for
 abbrev pub session_at : List Hop → List ℕ → Spot → List ℕ → Session
 session_at hops bytes p hold =
@@ -98,6 +93,10 @@ session_at hops bytes p hold =
 abbrev pub spot_of : ℕ → Session → ℕ → Spot
 spot_of n s sent = record { behind = n; stage = s.stage; held = s.held; bound = s.bound; attempts = s.attempts; sent = sent }
 
+-- ahead of all proxies
+abbrev pub fresh_spot : ℕ → Spot
+fresh_spot count = record { behind = count; stage = Open; held = 0; bound = bound_of unbound; attempts = 0; sent = 0 }
+
 abbrev pub begun_spot : List Hop → Spot → ℕ → Spot
 begun_spot hops p sent =
     record { behind = p.behind - 1; stage = Awaiting (hop_at hops (p.behind - 1)).first; held = 0; bound = p.bound; attempts = p.attempts; sent = sent }
@@ -106,12 +105,11 @@ begun_spot hops p sent =
 abbrev pub most_due : Lengths → Stage → ℕ
 most_due l stage = cond l.optimistic 0 (still_due stage)
 
--- what a piece asks: the buffers' lengths, and output for all that may still go
-pub record Relayable (hops : List Hop) (p : Spot) (bytes hold : List ℕ) (out : ℕ) : Type 0 where
+-- what a piece asks: the requests of the proxies from here on, and output for all that may still go
+pub record Relayable (hops : List Hop) (p : Spot) (bytes : List ℕ) (out : ℕ) : Type 0 where
   pub few : p.behind ≤ 7
   pub small : p.attempts < 2 ^ 64
-  pub whole : length bytes ≡ 8192
-  pub holds : length hold ≡ 261
+  pub whole : 1024 * (p.behind + 1) ≤ length bytes
   pub roomy : p.sent + (most_due (hop_at hops p.behind).lengths p.stage + 1024 * p.behind) ≤ out
 
 -- what was done equals a relay: the spot behind it, the hold, and what was sent from a place of the output on
@@ -120,22 +118,4 @@ pub record RelayResult (q : Relay) (p : Spot) (piece out : List ℕ) (r : Relaye
   pub used : r.used ≡ q.used
   pub held : hold' ≡ q.session.hold
   pub wrote : Wrote out p.sent q.sent r.spot.sent out'
-  pub within : r.used ≤ length piece
-
--- the next proxy was begun: where it stands, and what it may ask
-pub record Begins (hops : List Hop) (p : Spot) (bytes hold piece out : List ℕ) (r : Stepped) (hold' out' : List ℕ) : Type 0 where
-  pub some : 0 < p.behind
-  pub opened : (handed (session_at hops bytes p hold) piece).session.stage ≡ Open
-  pub spot : r.spot ≡ spot_of (p.behind - 1) (begun_at hops bytes (p.behind - 1) (handed (session_at hops bytes p hold) piece).session) r.spot.sent
-  pub used : r.used ≡ (handed (session_at hops bytes p hold) piece).used
-  pub held : hold' ≡ (handed (session_at hops bytes p hold) piece).session.hold
-  pub wrote : Wrote out p.sent ((alone p.behind (handed (session_at hops bytes p hold) piece)).sent ++ goes_at hops bytes (p.behind - 1)) r.spot.sent out'
-  pub asks : Relayable hops r.spot bytes hold' (length out')
-
-abbrev pub stopped : Stepped → Relayed
-stopped r = record { spot = r.spot; used = r.used }
-
-pub record Steps (hops : List Hop) (p : Spot) (bytes hold piece out : List ℕ) (r : Stepped) (hold' out' : List ℕ) : Type 0 where
-  pub stops : r.more ≡ false → RelayResult (relayed hops bytes p.behind (session_at hops bytes p hold) piece) p piece out (stopped r) hold' out'
-  pub goes : r.more ≡ true → Begins hops p bytes hold piece out r hold' out'
   pub within : r.used ≤ length piece

@@ -2,17 +2,19 @@
 
 #![tactic(auto)]
 
-ghost use Rattle.std.specs.Prelude.{◌≡◌, ◌+◌, ◌^◌, ◌<◌, ◌≤◌, length};
+ghost use Rattle.std.specs.Prelude.{◌≡◌, ◌+◌, ◌*◌, ◌^◌, ◌<◌, ◌≤◌, ◌↔◌, IsTrue, length};
 ghost use Rattle.buffers.specs.write.Written.{Wrote};
+ghost use Rattle.client_stages.specs.declared.due.Stage.TheVariants as Stage;
 ghost use Rattle.client_stages.specs.due.Parts.{part};
-ghost use Rattle.route_delivery.specs.Relay.{hop_at, bytes_at, goes_at, handed, alone, relayed, goes_on, session_at, begun_spot, most_due, Relayable, RelayResult, Steps};
+ghost use Rattle.route_delivery.specs.Relay.{hop_at, bytes_at, goes_at, handed, alone, relayed, session_at, fresh_spot, begun_spot, most_due, Relayable, RelayResult};
 
 use buffers::write::copy;
 use client_delivery::delivery::receive;
 use client_stages::due::{Lengths, Stage};
 use client_stages::start::first_size;
-use protocol::{Bound, PROXIES, REQUESTS, ROUTE_OUTPUT, Reply};
-use std::num::wrapping_add_u64;
+use protocol::{
+    AddressKind, AuthMethod, Bound, HOLD, PROXIES, REQUESTS, ROUTE_OUTPUT, ROUTE_REQUESTS, Reply,
+};
 
 // What a route keeps of a proxy beside the bytes of its requests: the reply that is awaited first, and their lengths.
 #[derive(Clone, Copy)]
@@ -20,6 +22,17 @@ pub struct Hop {
     pub first: Reply,
     pub lengths: Lengths,
 }
+
+// Of a proxy that a route lacks.
+pub const NO_HOP: Hop = Hop {
+    first: Reply::NegotiationRes(AuthMethod::NoAuth),
+    lengths: Lengths {
+        optimistic: false,
+        first: 0,
+        authentication: 0,
+        proxy: 0,
+    },
+};
 
 // Where a route stands: how many proxies are behind the one that is spoken to, how that one stands, and the place in the output
 // behind what was sent.
@@ -33,6 +46,32 @@ pub struct Spot {
     pub sent: usize,
 }
 
+impl Spot {
+    // Ahead of so many proxies.
+    pub fn ahead_of(count: usize) -> Self
+        ensures { result ≡ fresh_spot count }
+    {
+        Spot {
+            behind: count,
+            stage: Stage::Open,
+            held: 0,
+            bound: Bound {
+                kind: AddressKind::Ipv4,
+                port: 0,
+            },
+            attempts: 0,
+            sent: 0,
+        }
+    }
+
+    // The proxy that is spoken to is open, and another is behind it.
+    fn goes_on(self) -> bool
+        ensures { IsTrue result ↔ ((self.stage ≡ Stage.Open) × (0 < self.behind)) }
+    {
+        matches!(self.stage, Stage::Open) && 0 < self.behind
+    }
+}
+
 // Where a piece leaves a route, and how much of it was used.
 #[derive(Clone, Copy)]
 pub struct Relayed {
@@ -40,157 +79,105 @@ pub struct Relayed {
     pub used: usize,
 }
 
-// Copies a part of a proxy's requests, which stand among all from 1,024 times its index on.
-fn send(bytes: &[u8], index: usize, from: usize, n: usize, out: &mut [u8], at: usize) -> usize
-    requires { (length bytes.now ≡ 8192) × ((index ≤ 7) × ((from + n ≤ 1024) × (at + n ≤ length out.old))) }
-    ensures { Wrote out.old at (part (bytes_at bytes.now index) from n) result out.new }
-{
-    let start = REQUESTS * index + from;
-    let end = start + n;
-    copy(out, at, &bytes[start..end])
-}
-
-// The proxy that is spoken to is open, and another is behind it.
-fn goes_on(stage: Stage, behind: usize) -> bool
-    ensures { result ≡ goes_on stage behind }
-{
-    match stage {
-        Stage::Awaiting(reply) => false,
-        Stage::Open => 0 < behind,
-        Stage::Failed(error) => false,
-    }
-}
-
-// The next proxy is begun: what goes first is sent, and it holds nothing.
-pub fn begin(hops: [Hop; PROXIES], spot: Spot, bytes: &[u8], out: &mut [u8]) -> Spot
-    requires { (0 < spot.behind) × ((spot.behind ≤ 8) × ((length bytes.now ≡ 8192) × (spot.sent + 1024 ≤ length out.old))) }
-    ensures value { result ≡ begun_spot hops spot result.sent }
-    ensures wrote { Wrote out.old spot.sent (goes_at hops bytes.now result.behind) result.sent out.new }
-{
-    let index = spot.behind - 1;
-    let hop = hops[index];
-    let first = hop.first;
-    let lengths = hop.lengths;
-    let bound = spot.bound;
-    let n = first_size(lengths, first);
-    let sent = send(bytes, index, 0, n, out, spot.sent);
-    Spot {
-        behind: index,
-        stage: Stage::Awaiting(first),
-        held: 0,
-        bound: bound,
-        attempts: spot.attempts,
-        sent: sent,
-    }
-}
-
-// A piece for the proxy that is spoken to alone: its own delivery, lent 1,024 bytes.
-fn hand(
-    hops: [Hop; PROXIES],
-    spot: Spot,
-    bytes: &[u8],
-    hold: &mut [u8],
-    piece: &[u8],
-    out: &mut [u8],
-) -> Relayed
-    requires { Relayable hops spot bytes.now hold.old (length out.old) }
-    ensures relay_result { RelayResult (alone spot.behind (handed (session_at hops bytes.now spot hold.old) piece.now)) spot piece.now out.old result hold.new out.new }
-    ensures sent_bound { (result.spot.sent ≤ spot.sent + most_due (hop_at hops spot.behind).lengths spot.stage) × (result.spot.attempts < 2 ^ 64) }
-{
-    let behind = spot.behind;
-    let hop = hops[behind];
-    let lengths = hop.lengths;
-    let stage = spot.stage;
-    let bound = spot.bound;
-    let received = receive(
-        stage,
-        true,
-        spot.held,
-        lengths,
-        hold,
-        piece,
-        ROUTE_OUTPUT,
-        bound,
-    );
-    let taken = received.taken;
-    let next = taken.stage;
-    let after = taken.bound;
-    let sent = send(bytes, behind, taken.from, taken.sent, out, spot.sent);
-    Relayed {
-        spot: Spot {
-            behind: behind,
-            stage: next,
-            held: taken.held,
-            bound: after,
-            attempts: wrapping_add_u64(spot.attempts, taken.attempts),
-            sent: sent,
-        },
-        used: taken.used,
-    }
-}
-
-// Where the proxy that is spoken to leaves a piece. more: another was begun, which takes the rest.
+// The proxies of a route as they are kept, the last one's first: the requests of each stand from 1,024 times its index on, as far as they are lent.
 #[derive(Clone, Copy)]
-struct Stepped {
-    spot: Spot,
-    used: usize,
-    more: bool,
+pub struct Row<'a> {
+    pub hops: &'a [Hop; PROXIES],
+    pub bytes: &'a [u8],
 }
 
-fn step(
-    hops: [Hop; PROXIES],
-    spot: Spot,
-    bytes: &[u8],
-    hold: &mut [u8],
-    piece: &[u8],
-    out: &mut [u8],
-) -> Stepped
-    requires { Relayable hops spot bytes.now hold.old (length out.old) }
-    ensures { Steps hops spot bytes.now hold.old piece.now out.old result hold.new out.new }
-{
-    let here = hand(hops, spot, bytes, hold, piece, out);
-    let spent = here.spot;
-    let stage = spent.stage;
-    if !goes_on(stage, spent.behind) {
-        return Stepped {
-            spot: spent,
-            used: here.used,
-            more: false,
+impl Row<'_> {
+    // Copies a part of a proxy's requests.
+    fn send(self, index: usize, from: usize, n: usize, out: &mut [u8], at: usize) -> usize
+        requires { (1024 * (index + 1) ≤ length self.bytes.now) × ((from + n ≤ 1024) × (at + n ≤ length out.old)) }
+        ensures { Wrote out.old at (part (bytes_at self.entry.bytes.now index) from n) result out.new }
+    {
+        let start = REQUESTS * index + from;
+        copy(out, at, &self.bytes[start..start + n])
+    }
+
+    // The next proxy is begun: what goes first is sent, and it holds nothing.
+    pub fn begin(self, spot: Spot, out: &mut [u8]) -> Spot
+        requires { (0 < spot.behind) × ((spot.behind ≤ 8) × ((1024 * spot.behind ≤ length self.bytes.now) × (spot.sent + 1024 ≤ length out.old))) }
+        ensures value { result ≡ begun_spot self.entry.hops.now spot result.sent }
+        ensures wrote { Wrote out.old spot.sent (goes_at self.entry.hops.now self.entry.bytes.now result.behind) result.sent out.new }
+    {
+        let behind = spot.behind - 1;
+        let hop = self.hops[behind];
+        let n = first_size(hop.lengths, hop.first);
+        let sent = self.send(behind, 0, n, out, spot.sent);
+        Spot {
+            behind,
+            stage: Stage::Awaiting(hop.first),
+            held: 0,
+            sent,
+            ..spot
+        }
+    }
+
+    // A piece for the proxy that is spoken to alone: its own delivery, lent 1,024 bytes.
+    fn hand(self, spot: Spot, hold: &mut [u8; HOLD], piece: &[u8], out: &mut [u8]) -> Relayed
+        requires { Relayable self.hops.now spot self.bytes.now (length out.old) }
+        ensures relay_result { RelayResult (alone spot.behind (handed (session_at self.entry.hops.now self.entry.bytes.now spot hold.old) piece.now)) spot piece.now out.old result hold.new out.new }
+        ensures sent_bound { (result.spot.sent ≤ spot.sent + most_due (hop_at self.entry.hops.now spot.behind).lengths spot.stage) × (result.spot.attempts < 2 ^ 64) }
+    {
+        let hop = self.hops[spot.behind];
+        let Ok(taken) = receive(
+            spot.stage,
+            true,
+            spot.held,
+            hop.lengths,
+            hold,
+            piece,
+            ROUTE_OUTPUT,
+            spot.bound,
+        ) else {
+            return Relayed { spot, used: 0 };
         };
+        let sent = self.send(spot.behind, taken.from, taken.sent, out, spot.sent);
+        Relayed {
+            spot: Spot {
+                behind: spot.behind,
+                stage: taken.stage,
+                held: taken.held,
+                bound: taken.bound,
+                attempts: spot.attempts.wrapping_add(taken.attempts),
+                sent,
+            },
+            used: taken.used,
+        }
     }
-    let begun = begin(hops, spent, bytes, out);
-    Stepped {
-        spot: begun,
-        used: here.used,
-        more: true,
+
+    // A piece for the proxy that is spoken to, and once that is open what it left for those behind it.
+    pub fn relay(self, spot: Spot, hold: &mut [u8; HOLD], piece: &[u8], out: &mut [u8]) -> Relayed
+        requires { Relayable self.hops.now spot self.bytes.now (length out.old) }
+        ensures { RelayResult (relayed self.entry.hops.now self.entry.bytes.now spot.behind (session_at self.entry.hops.now self.entry.bytes.now spot hold.old) piece.now) spot piece.now out.old result hold.new out.new }
+    {
+        let here = self.hand(spot, hold, piece, out);
+        if !here.spot.goes_on() {
+            return here;
+        }
+        let begun = self.begin(here.spot, out);
+        let last = self.relay(begun, hold, &piece[here.used..], out);
+        Relayed {
+            spot: last.spot,
+            used: here.used + last.used,
+        }
     }
 }
 
-// A piece for the proxy that is spoken to, and what that leaves for those behind it.
+// A delivery to a route that keeps the requests of all eight.
 pub fn relay(
-    hops: [Hop; PROXIES],
+    hops: &[Hop; PROXIES],
     spot: Spot,
-    bytes: &[u8],
-    hold: &mut [u8],
+    bytes: &[u8; ROUTE_REQUESTS],
+    hold: &mut [u8; HOLD],
     piece: &[u8],
     out: &mut [u8],
 ) -> Relayed
-    requires { Relayable hops spot bytes.now hold.old (length out.old) }
-    ensures { RelayResult (relayed hops bytes.now spot.behind (session_at hops bytes.now spot hold.old) piece.now) spot piece.now out.old result hold.new out.new }
+    requires { Relayable hops.now spot bytes.now (length out.old) }
+    ensures { RelayResult (relayed hops.now bytes.now spot.behind (session_at hops.now bytes.now spot hold.old) piece.now) spot piece.now out.old result hold.new out.new }
 {
-    let stepped = step(hops, spot, bytes, hold, piece, out);
-    let here = stepped.spot;
-    let used = stepped.used;
-    if !stepped.more {
-        return Relayed {
-            spot: here,
-            used: used,
-        };
-    }
-    let last = relay(hops, here, bytes, hold, &piece[used..], out);
-    let reached = last.spot;
-    Relayed {
-        spot: reached,
-        used: used + last.used,
-    }
+    let row = Row { hops, bytes };
+    row.relay(spot, hold, piece, out)
 }

@@ -3,7 +3,7 @@ use Prim.Native.Nat.{ℕ, suc}
 use mathlib.Core.Path.{◌≡◌, refl, ap}
 use mathlib.Core.List.{List, [], ◌∷◌, ◌++◌}
 use lib.ListN.{length}
-use Rattle.protocol.specs.declared.Port.{Port}
+use Rattle.protocol.specs.Answers.{Port}
 use Rattle.protocol.specs.declared.Version.{Version}
 use Rattle.protocol.specs.declared.Version.TheVariants.{V4, V5}
 use Rattle.route_spec.specs.Route.{Proxy, host_of, port_of, Asked, asked_by, asked_of, asked}

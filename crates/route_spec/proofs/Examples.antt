@@ -4,7 +4,7 @@ use mathlib.Core.Path.{◌≡◌, refl}
 use mathlib.Core.Bool.{true, false}
 use mathlib.Core.List.{List, [], ◌∷◌, ◌++◌}
 use lib.ListN.{take, replicate}
-use Rattle.protocol.specs.declared.Port.TheVariants.{Missing, Given}
+use Rattle.protocol.specs.Answers.{Missing, Given}
 use Rattle.protocol.specs.declared.Outcome.TheVariants.{Waiting, Open}
 use Rattle.protocol.specs.Host.{strip, all_allowed}
 use Rattle.protocol.specs.AddressReading.{ipv4, domain, hex_value, digits_from, decimal_goes, hex_goes, number_of, group_of, mark_at, dotted, ipv4_of, follows_at, row, right_of, join_of, whole_of, starts_gap, ipv6_of, destination_of}

@@ -1,8 +1,6 @@
 -- F-5: a route of proxies, what each is asked for, the checks in their order, the plain machines in turn, and the grammars in that order.
 use Rattle.std.specs.Prelude.{ℕ, ◌+◌, ◌*◌, ◌<◌, ◌≡◌, ◌⊎◌, Bool, false, ◌||◌, List, [], ◌∷◌, ◌++◌, map, length, drop, ltb, eqb}
-use Rattle.protocol.specs.declared.Port.{Port}
-use Rattle.protocol.specs.declared.Answer.{Answer}
-use Rattle.protocol.specs.declared.Answer.TheVariants.{Accepted, Refused}
+use Rattle.protocol.specs.Answers.{Port, Answer, Accepted, Refused}
 use Rattle.protocol.specs.declared.Outcome.{Outcome}
 use Rattle.protocol.specs.declared.Outcome.TheVariants.{Waiting, Open, Failed}
 use Rattle.protocol.specs.declared.SocksError.TheVariants.{ShortOutput, RouteLength}

@@ -7,8 +7,7 @@ use lib.ListN.{length}
 use lib.Dec.{leb, ltb, lit<}
 use borrow.Author.Tests.{le-leb, le-ltb, leb-true}
 use Rattle.protocol.specs.declared.AuthMethod.TheVariants.{NoAuth, UserPass}
-use Rattle.protocol.specs.declared.Answer.{Answer}
-use Rattle.protocol.specs.declared.Answer.TheVariants.{Accepted, Refused}
+use Rattle.protocol.specs.Answers.{Answer, Accepted, Refused}
 use Rattle.protocol.specs.declared.SocksError.{SocksError}
 use Rattle.protocol.specs.declared.SocksError.TheVariants.{ShortOutput}
 use Rattle.protocol.specs.Numbers.{answer_number}

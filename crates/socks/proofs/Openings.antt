@@ -5,8 +5,7 @@ use mathlib.Core.Bool.{true≢false}
 use mathlib.Core.List.{List, [], ◌∷◌}
 use lib.ListN.{length, take}
 use lib.Seq.{take-append_seam}
-use Rattle.protocol.specs.declared.Answer.{Answer}
-use Rattle.protocol.specs.declared.Answer.TheVariants.{Accepted, Refused}
+use Rattle.protocol.specs.Answers.{Answer, Accepted, Refused}
 use Rattle.protocol.specs.declared.SocksError.{SocksError}
 use Rattle.protocol.specs.declared.SocksError.TheVariants.{Settled}
 use Rattle.protocol.specs.Opening.{V5, V4, check5, check4, Opening, v5, v4, no_auth, user_pass, opening5, opening4, first_reply, start_room, delivery_room, Limits, Sixteen}

@@ -9,7 +9,7 @@ use lib.ListN.{length, drop, length-append, length-drop, length-take}
 use lib.Seq.{drop-append_seam}
 use lib.Dec.{leb, lit<}
 use borrow.Author.Tests.{leb-true, not-true}
-use Rattle.protocol.specs.declared.Answer.TheVariants.{Accepted, Refused}
+use Rattle.protocol.specs.Answers.{Accepted, Refused}
 use Rattle.protocol.specs.declared.Bound.{Bound}
 use Rattle.protocol.specs.declared.Outcome.TheVariants as outcomes
 use Rattle.protocol.specs.declared.Reply.{Reply}

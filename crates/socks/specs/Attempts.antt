@@ -1,7 +1,6 @@
 -- F-11: the attempts of a tunnel, by the plain machine's decisions on the joined bytes up to each delivery, and its bounds.
 use Rattle.std.specs.Prelude.{ℕ, ◌+◌, ◌-◌, ◌%◌, ◌^◌, ◌≤◌, ◌≡◌, Bool, true, false, cond, ◌&&◌, List, [], ◌∷◌, ◌++◌, length, ltb}
-use Rattle.protocol.specs.declared.Answer.{Answer}
-use Rattle.protocol.specs.declared.Answer.TheVariants.{Accepted, Refused}
+use Rattle.protocol.specs.Answers.{Answer, Accepted, Refused}
 use Rattle.protocol.specs.declared.Outcome.{Outcome}
 use Rattle.protocol.specs.declared.Outcome.TheVariants.{Waiting, Open, Failed}
 use Rattle.protocol.specs.Opening.{Opening, delivery_room}

@@ -1,7 +1,6 @@
 -- 01, "Tunnel": demand 3, one claim over every list of deliveries to a tunnel: a field for each sentence.
 use Rattle.std.specs.Prelude.{ℕ, ◌≡◌, ◌↔◌, List, take, drop}
-use Rattle.protocol.specs.declared.Answer.{Answer}
-use Rattle.protocol.specs.declared.Answer.TheVariants.{Accepted}
+use Rattle.protocol.specs.Answers.{Answer, Accepted}
 use Rattle.protocol.specs.declared.Outcome.TheVariants.{Open}
 use Rattle.protocol.specs.Bytes.{BytePieces}
 use Rattle.protocol.specs.Bound.{address_of}

@@ -1,7 +1,6 @@
 -- The lines that document 01 marks with †, computed by the calls: preparing and a start, then the bytes received in two deliveries.
 use Rattle.std.specs.Prelude.{ℕ, ◌-◌, ◌≡◌, List, [], ◌∷◌, map, take, drop, replicate}
-use Rattle.protocol.specs.declared.Answer.{Answer}
-use Rattle.protocol.specs.declared.Answer.TheVariants.{Accepted, Refused}
+use Rattle.protocol.specs.Answers.{Answer, Accepted, Refused}
 use Rattle.protocol.specs.Numbers.{number, status, answer_number}
 use Rattle.protocol.specs.Opening.{V5}
 use Rattle.protocol.specs.Examples.{Case, host, over5, over4, Shown, fails, shown, computed, open5, signed5, open4, address, success}

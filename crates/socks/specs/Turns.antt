@@ -1,7 +1,7 @@
 -- Demand 1 and F-7: what preparing returns; and of any session which call is in turn, what a refused one leaves, and what an accepted one does beside what demand 3 says.
 use Rattle.std.specs.Prelude.{ℕ, ◌<◌, ◌≡◌, ◌⊎◌, true, false, List, [], ◌∷◌, length, drop}
 use Rattle.protocol.specs.declared.Address.{Address}
-use Rattle.protocol.specs.declared.Answer.TheVariants.{Accepted, Refused}
+use Rattle.protocol.specs.Answers.{Accepted, Refused}
 use Rattle.protocol.specs.declared.Outcome.{Outcome}
 use Rattle.protocol.specs.declared.Outcome.TheVariants.{Waiting, Open, Failed}
 use Rattle.protocol.specs.declared.SocksError.{SocksError}

@@ -6,8 +6,6 @@ pub mod errors;
 pub mod v4;
 pub mod v5;
 
-pub use address_format::endpoint::Written;
 pub use buffers::write::rest;
 pub use client_session::{Delivered, Ended, Prepared, Session, Started};
 pub use client_stages::due::{Lengths, Requests, Stage};
-pub use lookup::Lookup;

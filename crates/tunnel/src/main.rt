@@ -4,8 +4,7 @@
 ghost use Rattle.std.specs.Prelude.{◌≡◌, ◌+◌, ◌%◌, ◌^◌, ◌≤◌, length};
 ghost use Rattle.tunnel.specs.Lines.{outcome_numbers};
 
-use lookup::none_found;
-use protocol::{Outcome, Port, SocksConfig};
+use protocol::{Outcome, SocksConfig};
 use socks::{Delivered, Prepared, Session, Started, errors, v5};
 use std::io::{Print, Stdin, Stdout};
 
@@ -67,14 +66,7 @@ fn prepare() -> Prepared {
         local_dns: false,
         optimistic: false,
     };
-    v5::prepare_chosen(
-        config,
-        b"192.0.2.7",
-        Port::Given(443),
-        b"",
-        b"",
-        none_found(),
-    )
+    v5::prepare_chosen(config, b"192.0.2.7", Some(443), b"", b"", None)
 }
 
 // The session, prepared and started.

@@ -30,23 +30,23 @@ const CLASS: [u8; 256] = [
 pub fn class_of(b: u8) -> u8
     ensures { result ≡ class_of b }
 {
-    CLASS[b as usize]
+    CLASS[usize::from(b)]
 }
 
 // The state, where the class is from lo to hi.
+#[tactic(auto, unfolding(protocol::specs::Utf8::among))]
 fn among(lo: u8, hi: u8, class: u8, state: Utf8State) -> Utf8State
     ensures { result ≡ among lo hi class state }
 {
-    if class < lo {
-        return Utf8State::Invalid;
+    if (lo..=hi).contains(&class) {
+        state
+    } else {
+        Utf8State::Invalid
     }
-    if hi < class {
-        return Utf8State::Invalid;
-    }
-    state
 }
 
 // The state behind the first byte of a character.
+#[tactic(auto, unfolding(protocol::specs::Utf8::first))]
 fn first(class: u8) -> Utf8State
     ensures { result ≡ first class }
 {
@@ -63,6 +63,7 @@ fn first(class: u8) -> Utf8State
     }
 }
 
+#[tactic(auto, unfolding(protocol::specs::Utf8::next))]
 pub fn next(state: Utf8State, class: u8) -> Utf8State
     ensures { result ≡ next state class }
 {
@@ -79,18 +80,9 @@ pub fn next(state: Utf8State, class: u8) -> Utf8State
     }
 }
 
+#[tactic(auto, unfolding(protocol::specs::Utf8::is_boundary))]
 pub fn is_boundary(state: Utf8State) -> bool
     ensures { result ≡ is_boundary state }
 {
-    match state {
-        Utf8State::Boundary => true,
-        Utf8State::Tail1 => false,
-        Utf8State::Tail2 => false,
-        Utf8State::Tail3 => false,
-        Utf8State::AfterE0 => false,
-        Utf8State::AfterEd => false,
-        Utf8State::AfterF0 => false,
-        Utf8State::AfterF4 => false,
-        Utf8State::Invalid => false,
-    }
+    matches!(state, Utf8State::Boundary)
 }

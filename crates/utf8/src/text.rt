@@ -10,41 +10,21 @@ use protocol::Utf8State;
 pub fn scanned(from: Utf8State, s: &[u8]) -> Utf8State
     ensures { result ≡ scan from s.now }
 {
-    let mut state = from;
-    let mut i = 0;
-    while i < s.len() {
-        let b = s[i];
-        state = next(state, class_of(b));
-        i += 1;
-    }
-    state
+    s.iter().fold(from, |state, &b| next(state, class_of(b)))
 }
 
-// Whether each byte is below 80. Such a text needs no look into the table.
-fn is_ascii(s: &[u8]) -> bool
-    ensures { result ≡ true → scan Utf8State.Boundary s.now ≡ Utf8State.Boundary }
-{
-    let mut i = 0;
-    while i < s.len() {
-        if 0x80 <= s[i] {
-            return false;
-        }
-        i += 1;
-    }
-    true
-}
-
+#[tactic(auto, unfolding(protocol::specs::Utf8::is_utf8))]
 pub fn is_utf8(s: &[u8]) -> bool
     ensures { result ≡ is_utf8 s.now }
 {
     is_boundary(scanned(Utf8State::Boundary, s))
 }
 
-// Whether bytes that stand in two slices are UTF-8.
+// Whether bytes that stand in two slices are UTF-8. Where each is below 80 no look into the table is needed.
 pub fn is_utf8_in_two(s: &[u8], t: &[u8]) -> bool
     ensures { result ≡ is_utf8 (s.now ++ t.now) }
 {
-    if is_ascii(s) && is_ascii(t) {
+    if s.is_ascii() && t.is_ascii() {
         return true;
     }
     is_boundary(scanned(scanned(Utf8State::Boundary, s), t))

@@ -13,7 +13,7 @@ use Rattle.address_format.proofs.numerals.Laws.{then}
 use Rattle.protocol.specs.declared.Address.{Address}
 use Rattle.protocol.specs.declared.AddressKind.{AddressKind}
 use Rattle.protocol.specs.declared.AddressKind.TheVariants.{Ipv4, Ipv6, Domain}
-use Rattle.protocol.specs.declared.Answer.TheVariants.{Accepted, Refused}
+use Rattle.std.specs.Prelude.{Ok, Err}
 use Rattle.protocol.specs.declared.SocksError.TheVariants.{ShortText}
 use Rattle.protocol.specs.AddressReading.{Destination}
 use Rattle.protocol.specs.Bound.{size_of}
@@ -108,12 +108,12 @@ module _ {o whole s t : List ℕ} {n : ℕ} (v : Adds o 0 s n whole) (e : s ≡ 
   counted : n ≡ length t
   counted = v.place ∙ zero-add (length s) ∙ ap length e
 
-  pub refused : {text : List ℕ} → length text < n → TextResult (write_text t text) (record { answer = Refused ShortText; len = 0 }) text
+  pub refused : {text : List ℕ} → length text < n → TextResult (write_text t text) (Err ShortText) text
   refused {text} h =
       let f = lt-leb (length t) (length text) (omega (arith, counted)) in
-      record { returned = rw f; buffer = rw f; inside = omega arith }
+      record { returned = rw f; buffer = rw f; inside = tt }
 
-  pub written : {text text' : List ℕ} {m : ℕ} → Wrote text 0 (take n whole) m text' → TextResult (write_text t text) (record { answer = Accepted; len = m }) text'
+  pub written : {text text' : List ℕ} {m : ℕ} → Wrote text 0 (take n whole) m text' → TextResult (write_text t text) (Ok m) text'
   unfolding overwrite
   written {text} {text'} {m} u =
       let w : Wrote text 0 t m text' = rw (v.added ∙ e) at u in

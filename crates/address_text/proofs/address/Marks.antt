@@ -1,4 +1,5 @@
 -- A text with no byte up to `:` among its first five is a name.
+use Rattle.std.specs.Prelude.{All, take}
 use Rattle.std.proofs.Common.{◌≡◌, ℕ, zero, suc, ◌+◌, ◌*◌, ◌<◌, ◌≤◌, Bool, true, false, cond, eqb, ltb, List, [], ◌∷◌, length, refl, arith, ltb-true, ne_eqb}
 use mathlib.Core.Option.{none}
 use Rattle.protocol.specs.declared.Follows.TheVariants.{Bad}
@@ -71,3 +72,11 @@ unmarked (a ∷ s) l p q r t u =
     let f = group_few 0 0 (a ∷ s) (omega arith) in
     let n = (group_of (a ∷ s)).count in
     rw (no_ipv4 a s p, no_ipv6 a s p (follows_bad (a ∷ s) n (omega arith) (any_of_five (a ∷ s) p q r t u n f)))
+
+pub unmarked_all : (s : List ℕ) → 5 ≤ length s → All (λ b. 0x3A < b) (take 5 s) → destination_of s ≡ domain s
+unmarked_all [] l h = absurd (omega arith)
+unmarked_all (a ∷ []) l h = absurd (omega arith)
+unmarked_all (a ∷ b ∷ []) l h = absurd (omega arith)
+unmarked_all (a ∷ b ∷ c ∷ []) l h = absurd (omega arith)
+unmarked_all (a ∷ b ∷ c ∷ d ∷ []) l h = absurd (omega arith)
+unmarked_all (a ∷ b ∷ c ∷ d ∷ e ∷ s) l h = unmarked (a ∷ b ∷ c ∷ d ∷ e ∷ s) l (h 0 0 (omega arith)) (h 1 0 (omega arith)) (h 2 0 (omega arith)) (h 3 0 (omega arith)) (h 4 0 (omega arith))

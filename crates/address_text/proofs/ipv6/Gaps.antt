@@ -1,4 +1,7 @@
 -- IPv6 text: bytes before and behind `::`, and the whole text.
+use Rattle.std.specs.List.{starts_with}
+use Rattle.std.specs.Prelude.{nat_eq}
+use Rattle.std.proofs.lemmas.Bool.Decides.{nat_tests}
 use Rattle.std.proofs.Common.{◌≡◌, ℕ, ◌+◌, ◌-◌, ◌<◌, ◌≤◌, Bool, true, false, cond, eqb, ltb, leb, List, [], ◌∷◌, ◌++◌, length, take, drop, replicate, sym, refl, ◌∙◌, arith, length-take-le, ltb-false, ltb-true}
 use mathlib.Core.Option.{Option, none, some}
 use mathlib.Core.Bool.{false≢true}
@@ -63,3 +66,9 @@ start_long s e = go (ltb (length s) 2) refl
     go : (x : Bool) → ltb (length s) 2 ≡ x → 2 ≤ length s
     go true f = absurd (false≢true (sym (short_start s (ltb-true (length s) 2 f)) ∙ e))
     go false f = ltb-false (length s) 2 f
+
+pub gap_lem : (s : List ℕ) → starts_with nat_eq s (0x3A ∷ 0x3A ∷ []) ≡ starts_gap s
+unfolding starts_gap
+gap_lem [] = refl
+gap_lem (a ∷ []) = grind (arith, nat_tests)
+gap_lem (a ∷ b ∷ s) = grind (arith, nat_tests)

@@ -4,7 +4,7 @@ use mathlib.Core.Bool.{Bool, true, false}
 use mathlib.Core.List.{List, ◌++◌, append-nil}
 use Prim.Native.Nat.{ℕ, ◌+◌, ◌-◌, ◌≤◌, min}
 use native.Mathlib.Omega.{arith}
-use lib.ListN.{length, take, drop, length-drop, drop_of_length-le}
+use lib.ListN.{length, take, drop, length-drop}
 use lib.Seq.{take_all, take-length, drop-length, take-append-le, drop-append-le, take-append-add, drop-append-add}
 use lib.Dec.{leb}
 use borrow.Author.Tests.{leb-true, leb-false}
@@ -18,9 +18,6 @@ take_min n l = go (leb n (length l)) refl
 
 pub part_from : (l : List ℕ) (n : ℕ) → take (length l - n) (drop n l) ≡ drop n l
 part_from l n = take_all (length l - n) (drop n l) (rw (length-drop n l) (omega arith))
-
-pub part_past : (l : List ℕ) (n : ℕ) → length l ≤ n → take (length l - length l) (drop (length l) l) ≡ drop n l
-part_past l n h = part_from l (length l) ∙ drop-length l ∙ sym (drop_of_length-le l h)
 
 -- ---- a part of two lists in a row is a part of the first and a part of the second
 

@@ -3,13 +3,16 @@ use Prim.Native.Nat.{ℕ, ◌+◌, ◌-◌, ◌≤◌, ◌<◌}
 use native.Mathlib.Omega.{arith}
 use mathlib.Core.Path.{◌≡◌, refl, ap, sym, ◌∙◌}
 use mathlib.Core.Bool.{Bool, true, false, cond, not, ◌&&◌}
+use Rattle.std.specs.Prelude.{None, Some}
+use Rattle.std.specs.Cmp.Lexicographic.{pointwise}
+use Rattle.std.proofs.lemmas.List.{drop-take}
 use mathlib.Core.List.{List, [], ◌∷◌, ◌++◌}
-use lib.ListN.{length, take, drop, replicate, length-append, length-take, length-drop, length-replicate, take-append-drop}
-use lib.Seq.{length-take-le, take-append-le, drop-append-le, take-append-add, take-append_seam}
+use lib.ListN.{length, take, drop, replicate, length-append, length-take, length-drop, length-replicate}
+use lib.Seq.{length-take-le, take-append-le, take-append-add, take-append_seam}
 use lib.Dec.{eqb, lit≤}
-use borrow.Author.Tests.{le-leb, lt-leb}
-use Rattle.protocol.proofs.Bytes.{same_equal}
+use borrow.Author.Tests.{le-leb, lt-leb, eq-eqb, ne_eqb}
 use Rattle.protocol.specs.Bytes.{same}
+use Rattle.protocol.proofs.Bytes.{same_equal}
 use Rattle.protocol.specs.declared.Reply.TheVariants.{NegotiationRes, AuthenticationRes, ProxyRes, Response}
 use Rattle.protocol.specs.declared.SocksError.TheVariants.{Settled, OutOfOrder}
 use Rattle.client_stages.specs.declared.due.Stage.{Stage}
@@ -21,52 +24,43 @@ use Rattle.client_session.specs.Calls.{Call, refusal, takes, deliver, DeliverRes
 use Rattle.talk.specs.Talk.{onward, is_over}
 use Rattle.captures_spec.specs.Captures.{sent, received}
 use Rattle.captures.specs.declared.walk.Course.{Course}
-use Rattle.captures.specs.Walk.{taking}
+use Rattle.captures.specs.Walk.{passed, taking}
 use Rattle.captures.specs.Coded.{Within, Passes}
 
-abbrev pub course : Session → ℕ → ℕ → Bool → Course
-course s due n b = record { session = s; due = due; sent = n; lawful = b }
-
-cond_and : (t x : Bool) → cond t x false ≡ (t && x)
-cond_and true x = refl
-cond_and false x = refl
-
--- a part of a part
-part_of : (k n m : ℕ) (l : List ℕ) → n + k ≤ m → m ≤ length l → take k (drop n (take m l)) ≡ take k (drop n l)
-part_of k n m l h g =
-    let z : length (take m l) ≡ m = length-take-le m l g in
-    let e : l ≡ take m l ++ drop m l = sym (take-append-drop m l) in
-    sym (ap (λ (x : List ℕ). take k (drop n x)) e ∙ rw (drop-append-le n (take m l) (drop m l) (omega arith)) (take-append-le k (drop n (take m l)) (drop m l) (omega (arith, length-drop n (take m l)))))
+abbrev pub course : Session → ℕ → ℕ → Course
+course s due n = record { session = s; due = due; sent = n }
 
 -- ---- sent bytes
 
+pointwise_same : (a b : List ℕ) → pointwise eqb a b ≡ same a b
+unfolding same
+pointwise_same [] [] = refl
+pointwise_same [] (y ∷ ys) = refl
+pointwise_same (x ∷ xs) [] = refl
+pointwise_same (x ∷ xs) (y ∷ ys) = ap (λ (t : Bool). eqb x y && t) (pointwise_same xs ys)
+
 module _ (c : Course) (bs out : List ℕ) (w : Within c out) where
-  due_long : length (take c.due out) ≡ c.due
-  due_long = length-take-le c.due out w.1
+  -- the bytes that are due next
+  next_due : drop c.sent (take c.due out) ≡ take (c.due - c.sent) (drop c.sent out)
+  next_due =
+      let e : c.due ≡ c.sent + (c.due - c.sent) = omega (arith, w.0) in
+      ap (λ (n : ℕ). drop c.sent (take n out)) e ∙ drop-take c.sent (c.due - c.sent) out
 
-  pub sent_short : c.due - c.sent < length bs → Passes sent bs c out (course c.session c.due c.sent false) out
-  sent_short h =
-      record {
-        size = refl;
-        within = w;
-        on = λ on. rw (go (same bs (take (length bs) (drop c.sent (take c.due out)))) refl);
-      }
-    where
-      go : (t : Bool) → same bs (take (length bs) (drop c.sent (take c.due out))) ≡ t → t ≡ false
-      go false q = refl
-      go true q =
-          absurd (omega (arith, ap length (same_equal bs _ q), length-take (length bs) (drop c.sent (take c.due out)), length-drop c.sent (take c.due out), due_long))
+  module _ {t : Bool} (q : pointwise eqb bs (take (length bs) (take (c.due - c.sent) (drop c.sent out))) ≡ t) where
+    begins : same bs (take (length bs) (drop c.sent (take c.due out))) ≡ t
+    begins = sym (pointwise_same bs _) ∙ ap (λ (l : List ℕ). pointwise eqb bs (take (length bs) l)) next_due ∙ q
 
-  pub sent_held : (end : ℕ) → end ≡ c.sent + length bs → length bs ≤ c.due - c.sent → {b : Bool} → b ≡ same bs (take (end - c.sent) (drop c.sent out))
-      → Passes sent bs c out (course c.session c.due end b) out
-  sent_held end e h {b} q =
-      let k : end - c.sent ≡ length bs = omega (arith, e) in
-      let p : b ≡ same bs (take (length bs) (drop c.sent (take c.due out))) = q ∙ rw (k, part_of (length bs) c.sent c.due out (omega (arith, w.0)) w.1) in
-      record {
-        size = refl;
-        within = (omega (arith, e, w.0), w.1);
-        on = λ on. rw (← p, e) (cond_and b (on c.session (take c.due out) (c.sent + length bs)));
-      }
+    pub sent_other : t ≡ false → Passes sent bs c out None out
+    sent_other e = record { within = tt; on = λ on. rw (begins ∙ e) }
+
+    pub sent_next : t ≡ true → Passes sent bs c out (Some (course c.session c.due (c.sent + length bs))) out
+    sent_next e =
+        let l = length-take-le c.due out w.1 in
+        let k = ap length (same_equal bs _ (begins ∙ e)) in
+        record {
+          within = (omega (arith, w.0, k, length-take (length bs) (drop c.sent (take c.due out)), length-drop c.sent (take c.due out), l), w.1);
+          on = λ on. rw (begins ∙ e);
+        }
 
 -- ---- received bytes
 
@@ -104,30 +98,37 @@ deliver_same s bs a b p q =
     go false true = takes_same s bs a b
 
 module _ (c : Course) (bs out : List ℕ) (w : Within c out) where
-  pub received_over : 1024 < c.due → Passes received bs c out (course c.session c.due c.sent false) out
-  received_over h = record { size = refl; within = w; on = λ on. rw (length-take-le c.due out w.1, lt-leb c.due 1024 h) }
+  pub received_over : 1024 < c.due → Passes received bs c out None out
+  received_over h = record { within = tt; on = λ on. rw (length-take-le c.due out w.1, lt-leb c.due 1024 h) }
 
-  pub received_taken : length out ≡ 1802 → c.due ≤ 1024 → {r : Delivered} {ys : List ℕ} (post : List ℕ)
-      → DeliverResult (deliver c.session bs (take (length out - c.due) (drop c.due out))) bs r ys
-      → length (take c.due out ++ (ys ++ post)) ≡ length out
-      → Passes received bs c out (course r.session (c.due + r.sent) c.sent (eqb r.used (length bs))) (take c.due out ++ (ys ++ post))
-  unfolding taking
-  received_taken l h {r} {ys} post d long =
-      let lent = take (length out - c.due) (drop c.due out) in
-      let k = deliver c.session bs lent in
-      let front : length (take c.due out) ≡ c.due = length-take-le c.due out w.1 in
-      let n = deliver_same c.session bs (replicate {A = ℕ} 778 0) lent (rw (length-replicate {A = ℕ} 778 0) (lit≤ tt)) (omega (arith, l, length-take (length out - c.due) (drop c.due out), length-drop c.due out)) in
-      let sent_is : r.sent ≡ k.sent = ap (λ (x : Delivered). x.sent) d.returned in
-      let inside = d.inside in
-      let behind : take (c.due + r.sent) (take c.due out ++ (ys ++ post)) ≡ take c.due out ++ take k.sent k.output =
-      ap (λ (m : ℕ). take (m + r.sent) (take c.due out ++ (ys ++ post))) (sym front) ∙ take-append-add (take c.due out) (ys ++ post) r.sent
-      ∙ ap (λ (x : List ℕ). take c.due out ++ x) (take-append-le r.sent ys post inside ∙ (λ i. take (sent_is i) (d.output i))) in
-      record {
-        size = long;
-        within = (omega (arith, w.0), omega (arith, long, inside, length-append (take c.due out) (ys ++ post), length-append ys post, front));
-        on = λ on.
-            rw (front, le-leb c.due 1024 h)
-            ((λ i. cond (eqb (n.used i) (length bs)) (on (n.session i) (take c.due out ++ n.sends i) c.sent) false)
-            ∙ (λ i. cond (eqb (sym (ap (λ (x : Delivered). x.used) d.returned) i) (length bs)) (on (sym (ap (λ (x : Delivered). x.session) d.returned) i) (sym behind i) c.sent) false)
-            ∙ cond_and (eqb r.used (length bs)) (on r.session (take (c.due + r.sent) (take c.due out ++ (ys ++ post))) c.sent));
-      }
+  module _ (l : length out ≡ 1802) (h : c.due ≤ 1024) {r : Delivered} {ys : List ℕ} (post : List ℕ)
+      (d : DeliverResult (deliver c.session bs (take (1802 - c.due) (drop c.due out))) bs r ys)
+      (long : length (take c.due out ++ (ys ++ post)) ≡ length out) where
+    taken_on : (on : Session → List ℕ → ℕ → Bool) → passed received bs c.session (take c.due out) c.sent on
+        ≡ cond (eqb r.used (length bs)) (on r.session (take (c.due + r.sent) (take c.due out ++ (ys ++ post))) c.sent) false
+    unfolding taking
+    taken_on on =
+        let lent = take (1802 - c.due) (drop c.due out) in
+        let k = deliver c.session bs lent in
+        let front : length (take c.due out) ≡ c.due = length-take-le c.due out w.1 in
+        let n = deliver_same c.session bs (replicate {A = ℕ} 778 0) lent (rw (length-replicate {A = ℕ} 778 0) (lit≤ tt)) (omega (arith, l, length-take (1802 - c.due) (drop c.due out), length-drop c.due out)) in
+        let sent_is : r.sent ≡ k.sent = ap (λ (x : Delivered). x.sent) d.returned in
+        let inside = d.inside in
+        let behind : take (c.due + r.sent) (take c.due out ++ (ys ++ post)) ≡ take c.due out ++ take k.sent k.output =
+        ap (λ (m : ℕ). take (m + r.sent) (take c.due out ++ (ys ++ post))) (sym front) ∙ take-append-add (take c.due out) (ys ++ post) r.sent
+        ∙ ap (λ (x : List ℕ). take c.due out ++ x) (take-append-le r.sent ys post inside ∙ (λ i. take (sent_is i) (d.output i))) in
+        rw (front, le-leb c.due 1024 h)
+        ((λ i. cond (eqb (n.used i) (length bs)) (on (n.session i) (take c.due out ++ n.sends i) c.sent) false)
+        ∙ (λ i. cond (eqb (sym (ap (λ (x : Delivered). x.used) d.returned) i) (length bs)) (on (sym (ap (λ (x : Delivered). x.session) d.returned) i) (sym behind i) c.sent) false))
+
+    pub received_part : (r.used ≡ length bs → ⊥) → Passes received bs c out None (take c.due out ++ (ys ++ post))
+    received_part f = record { within = tt; on = λ on. taken_on on ∙ rw (ne_eqb r.used (length bs) f) }
+
+    pub received_whole : r.used ≡ length bs → Passes received bs c out (Some (course r.session (c.due + r.sent) c.sent)) (take c.due out ++ (ys ++ post))
+    received_whole e =
+        let front : length (take c.due out) ≡ c.due = length-take-le c.due out w.1 in
+        let inside = d.inside in
+        record {
+          within = (omega (arith, w.0), omega (arith, long, inside, length-append (take c.due out) (ys ++ post), length-append ys post, front));
+          on = λ on. taken_on on ∙ rw (eq-eqb r.used (length bs) e);
+        }

@@ -3,7 +3,7 @@ use Prim.Native.Nat.{ℕ, ◌+◌, ◌-◌, ◌≤◌, min}
 use native.Mathlib.Omega.{arith}
 use mathlib.Core.Path.{◌≡◌, refl, sym, subst}
 use mathlib.Core.List.{List, ◌++◌}
-use lib.ListN.{length, take, drop, replicate}
+use lib.ListN.{length, take, drop, replicate, length-take, length-replicate}
 use lib.Seq.{drop-drop, length-take-le}
 use lib.Dec.{lit≤}
 use borrow.Author.Tests.{ne_eqb}
@@ -16,7 +16,7 @@ use Rattle.protocol.specs.Requests.{kind_of}
 use Rattle.protocol.specs.Bound.{endpoint, proxy_bound, response_bound, bound_by, address_of}
 use Rattle.protocol.specs.Replies.{proxy_size}
 use Rattle.protocol.proofs.Named.{drop_first}
-use Rattle.buffers.specs.write.Written.{Wrote}
+use Rattle.buffers.specs.write.Written.{overwrite, Wrote}
 use Rattle.buffers.proofs.write.Parts.{part_from, drop_two}
 use Rattle.buffers.specs.declared.hold.Found.{Found}
 use Rattle.buffers.specs.hold.Held.{Finds}
@@ -59,9 +59,13 @@ found_at e hold p n at a {r} l q f = subst (λ (bs : List ℕ). Finds 255 (bound
 
 -- ---- an address as a value
 
-pub address_is : (b : Bound) (held : List ℕ) {n : ℕ} {zeros bytes : List ℕ} {next : ℕ} → n ≡ min (length held) 255 → zeros ≡ replicate 255 0 → Wrote zeros 0 (take n held) next bytes
-    → record { kind = b.kind; len = n; bytes = bytes; port = b.port } ≡ address_of (endpoint (kind_of b.kind held) b.port)
-address_is b held e z w =
+pub address_is : (b : Bound) (held : List ℕ) {n : ℕ} {p : List ℕ} → n ≡ min (length held) 255 → p ≡ take n held
+    → record { kind = b.kind; len = n; bytes = p ++ drop n (replicate 255 0); port = b.port } ≡ address_of (endpoint (kind_of b.kind held) b.port)
+unfolding overwrite
+address_is b held {n} {p} e q =
     let (k, v) = kind_back b.kind held in
-    let p = first_bytes 255 held e z w in
-    rw (k, v) (λ i. record { kind = b.kind; len = e i; bytes = p i; port = b.port })
+    let m : n ≡ 0 + length (take n held) = omega (arith, length-take n held) in
+    let w : Wrote (replicate 255 0) 0 (take n held) (0 + length (take n held)) (p ++ drop n (replicate 255 0)) =
+    record { inside = omega (arith, length-replicate {A = ℕ} 255 0); place = refl; bytes = λ i. q i ++ drop (m i) (replicate 255 0) } in
+    let f = first_bytes 255 held e refl w in
+    rw (k, v) (λ i. record { kind = b.kind; len = e i; bytes = f i; port = b.port })

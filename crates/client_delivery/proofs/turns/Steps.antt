@@ -9,8 +9,7 @@ use Rattle.protocol.specs.declared.AuthMethod.TheVariants.{NoAuth, UserPass, Non
 use Rattle.protocol.specs.declared.Reply.{Reply}
 use Rattle.protocol.specs.declared.Reply.TheVariants.{NegotiationRes, AuthenticationRes, ProxyRes, Response}
 use Rattle.protocol.specs.declared.SocksError.{SocksError}
-use Rattle.protocol.specs.declared.Verdict.TheVariants.{Good, Bad}
-use Rattle.protocol.specs.declared.Decision.TheVariants.{Undecided, Decided}
+use Rattle.protocol.specs.Answers.{Good, Bad, Undecided, Decided}
 use Rattle.protocol.specs.Bound.{Endpoint, bound_by}
 use Rattle.protocol.specs.Replies.{decide}
 use Rattle.protocol.proofs.Named.{bound_first}

@@ -2,39 +2,31 @@
 use Prim.Native.Nat.{ℕ, ◌+◌, ◌-◌, ◌≤◌, ◌<◌, zero-le}
 use native.Mathlib.Nat.{add-zero, zero-add, add_assoc}
 use native.Mathlib.Omega.{arith}
+use Rattle.std.specs.Prelude.{Option, Some, None}
 use mathlib.Core.Path.{◌≡◌, refl, ap, sym, ◌∙◌}
-use mathlib.Core.Bool.{Bool, true, false}
 use mathlib.Core.List.{List, [], ◌++◌, append_assoc, append-nil}
 use lib.ListN.{length, drop, length-drop}
 use lib.Seq.{drop-drop}
-use borrow.Author.Tests.{ltb-false}
 use Rattle.protocol.specs.declared.AuthMethod.TheVariants.{NoAuth, UserPass, NoneAcceptable}
 use Rattle.protocol.specs.declared.Reply.{Reply}
 use Rattle.protocol.specs.declared.Reply.TheVariants.{NegotiationRes, AuthenticationRes, ProxyRes, Response}
 use Rattle.protocol.specs.declared.SocksError.{SocksError}
-use Rattle.protocol.specs.declared.Verdict.{Verdict}
-use Rattle.protocol.specs.declared.Verdict.TheVariants.{Good, Bad}
-use Rattle.protocol.specs.declared.Decision.{Decision}
-use Rattle.protocol.specs.declared.Decision.TheVariants.{Undecided, Decided}
-use Rattle.protocol.specs.Bytes.{byte}
+use Rattle.protocol.specs.Answers.{Verdict, Good, Bad, Decision, Undecided, Decided}
 use Rattle.protocol.specs.Bound.{unbound}
 use Rattle.protocol.specs.Replies.{decide}
 use Rattle.protocol.proofs.Named.{proxy_whole, response_whole}
-use Rattle.protocol.proofs.Replies.{decided_within, undecided_by}
+use Rattle.protocol.proofs.Replies.{decided_within}
 use Rattle.client_stages.specs.declared.due.Lengths.{Lengths}
-use Rattle.client_stages.specs.declared.due.Due.{Due}
 use Rattle.client_stages.specs.declared.due.Stage.{Stage}
 use Rattle.client_stages.specs.declared.due.Stage.TheVariants.{Awaiting, Open, Failed}
 use Rattle.client_stages.specs.due.Stages.{SideFed, rank}
 use Rattle.client_stages.specs.due.Parts.{part}
-use Rattle.client_stages.specs.due.Due.{due_after, due_judged, due_from, still_due}
+use Rattle.client_stages.specs.due.Due.{due_after, due_from, still_due}
 use Rattle.replies.specs.unread.Fewest.{fewest}
-use Rattle.replies.proofs.unread.Reading.{too_few}
 use Rattle.client_stages.proofs.due.Sending.{still_after, part_on}
-use Rattle.client_stages.proofs.due.Stages.{awaits}
 use Rattle.client_delivery.specs.bound_address.Named.{last_of, Whole}
 use Rattle.client_delivery.specs.declared.turns.Turn.{Turn}
-use Rattle.client_delivery.specs.turns.Turns.{kept_in, on_stage, one_decided, turn_decided, decided_at, goes_on, Rests, Turns, named_at, Ready, Worked}
+use Rattle.client_delivery.specs.turns.Turns.{kept_in, on_stage, turned, decided_at, Rests, named_at, Ready, Worked}
 use Rattle.client_delivery.proofs.turns.Steps.{stage_good, stage_bad, stage_rests, decides_good, decides_bad, rests_decided, rank_falls}
 use Rattle.talk.specs.Talk.{sending, moving}
 use Rattle.talk.proofs.Feed.{same_fed}
@@ -58,29 +50,6 @@ fewest_some (NegotiationRes m) = omega arith
 fewest_some AuthenticationRes = omega arith
 fewest_some ProxyRes = omega arith
 fewest_some Response = omega arith
-
-clash : true ≡ false → ⊥
-clash e = let z : ◌≡◌ {A = ℕ} 0 1 = cc in omega arith
-
--- a turn decides one reply at most, and none where none may still come
-turn_few : (stage : Stage) (bs : List ℕ) → (turn_decided stage bs ≤ 1) × (turn_decided stage bs ≤ rank stage)
-turn_few (Awaiting e) bs = go (decide e bs)
-  where
-    some : (w : Reply) → 1 ≤ rank (Awaiting w)
-    some (NegotiationRes m) = omega arith
-    some AuthenticationRes = omega arith
-    some ProxyRes = omega arith
-    some Response = omega arith
-
-    go : (d : Decision) → (one_decided d ≤ 1) × (one_decided d ≤ rank (Awaiting e))
-    go Undecided = (zero-le, zero-le)
-    go (Decided n v) = (omega arith, some e)
-turn_few Open bs = (zero-le, zero-le)
-turn_few (Failed x) bs = (zero-le, zero-le)
-
--- by no byte nothing is decided
-none_left : (e : Reply) (rest : List ℕ) → length rest ≡ 0 → Rests (Awaiting e) rest
-none_left e rest z = (too_few e rest (omega (arith, fewest_some e)), omega arith)
 
 -- ---- where the loop stands: what is left to do behind what was sent and read comes to the whole
 
@@ -209,60 +178,25 @@ module _ {l : Lengths} {e₀ : Reply} {bytes : List ℕ} {begin place sent decid
         inside = omega (arith, decided_within e (drop place bytes) n (Bad x) q, length-drop place bytes, g.inside);
       }
 
-  -- a stage that waits goes by its place alone
-  still : (e : Reply) (begin' : ℕ) → Going l e₀ bytes (Awaiting e) begin place sent decided → Going l e₀ bytes (Awaiting e) begin' place sent decided
-  still e begin' g = record { left = g.left; counts = g.counts; next = g.next; ends = g.ends; ready = tt; room = g.room; inside = g.inside }
+-- ---- a turn as the code makes it
 
-  module _ {stage' : Stage} {begin' place' sent' decided' : ℕ} where
-    -- a turn that reads nothing
-    stays : (stage : Stage) → stage' ≡ stage → begin' ≡ begin → place' ≡ place + 0 → sent' ≡ sent + 0 → decided' ≡ decided + 0 → Going l e₀ bytes stage begin place sent decided → Going l e₀ bytes stage' begin' place' sent' decided'
-    stays stage s b p n d g =
-        let p' : place' ≡ place = p ∙ add-zero place in
-        let n' : sent' ≡ sent = n ∙ add-zero sent in
-        let d' : decided' ≡ decided = d ∙ add-zero decided in
-        rw (s, b, p', n', d') g
+module _ (e : Reply) (bytes : List ℕ) (place : ℕ) {d : Decision} (p : d ≡ decide e (drop place bytes)) {n : ℕ} {v : Verdict} (q : d ≡ Decided n v) where
+  pub decided_inside : place ≤ length bytes → place + n ≤ length bytes
+  decided_inside h = omega (arith, decided_within e (drop place bytes) n v (sym p ∙ q), length-drop place bytes)
 
-    pub going_on : (stage : Stage) {again : Bool} → Going l e₀ bytes stage begin place sent decided → Turns l stage bytes begin place sent decided stage' begin' place' sent' decided' again → Going l e₀ bytes stage' begin' place' sent' decided'
-    going_on (Awaiting e) g t = go (decide e (drop place bytes)) refl
-      where
-        go : (d : Decision) → decide e (drop place bytes) ≡ d → Going l e₀ bytes stage' begin' place' sent' decided'
-        go Undecided q =
-            let s : stage' ≡ Awaiting e = rw q at t.staged in
-            let p : place' ≡ place = rw (q, add-zero) at t.placed in
-            let c : sent' ≡ sent = rw (q, add-zero) at t.counted in
-            let k : decided' ≡ decided = rw (q, add-zero) at t.tried in
-            rw (s, p, c, k) (still e begin' g)
-        go (Decided n Good) q =
-            let s : stage' ≡ (due_after l e).stage = rw q at t.staged in
-            let p : place' ≡ place + n = rw q at t.placed in
-            let c : sent' ≡ sent + (due_after l e).len = rw q at t.counted in
-            let k : decided' ≡ decided + 1 = rw q at t.tried in
-            rw (s, t.begun, p, c, k) (on_good e n q g)
-        go (Decided n (Bad x)) q =
-            let s : stage' ≡ Failed x = rw q at t.staged in
-            let p : place' ≡ place + n = rw q at t.placed in
-            let c : sent' ≡ sent = rw (q, add-zero) at t.counted in
-            let k : decided' ≡ decided + 1 = rw q at t.tried in
-            rw (s, t.begun, p, c, k) (on_bad e n x q g)
-    going_on Open g t = stays Open t.staged t.begun t.placed t.counted t.tried g
-    going_on (Failed x) g t = stays (Failed x) t.staged t.begun t.placed t.counted t.tried g
+-- ---- the loop
 
--- where the loop stands, from the stage that it began at
-pub record Loops (l : Lengths) (began : Stage) (bytes : List ℕ) (stage : Stage) (begin place sent decided left : ℕ) : Type 0 where
-  pub reply : Reply
-  pub first : began ≡ Awaiting reply
-  pub going : Going l reply bytes stage begin place sent decided
-  pub ends : rank stage ≤ left
-  pub most : decided + left ≤ 3
+-- where it stands, with so many turns left
+pub record Loops (l : Lengths) (e₀ : Reply) (bytes : List ℕ) (t : Turn) (left : ℕ) : Type 0 where
+  pub going : Going l e₀ bytes t.stage t.begin t.place t.sent t.decided
+  pub ends : rank t.stage ≤ left
+  pub most : t.decided + left ≤ 3
 
-pub loops_first : (l : Lengths) (e : Reply) (bytes : List ℕ) {t : Turn} → t ≡ record { stage = Awaiting e; begin = 0; place = 0; sent = 0; decided = 0; again = true } → Loops l t.stage bytes t.stage t.begin t.place t.sent t.decided 3
-loops_first l e bytes q = rw q (record { reply = e; first = refl; going = going_first l e bytes; ends = rank_most e; most = omega arith })
+pub loops_first : (l : Lengths) (e : Reply) (bytes : List ℕ) → Loops l e bytes (record { stage = Awaiting e; begin = 0; place = 0; sent = 0; decided = 0 }) 3
+loops_first l e bytes = record { going = going_first l e bytes; ends = rank_most e; most = omega arith }
 
-same_reply : {e f : Reply} → Awaiting e ≡ Awaiting f → e ≡ f
-same_reply p = cc
-
--- the loop is left
-pub going_last : {l : Lengths} {e₀ : Reply} {bytes : List ℕ} {stage : Stage} {begin place sent decided : ℕ} → Going l e₀ bytes stage begin place sent decided → decided ≤ 3 → Rests stage (drop place bytes)
+-- the loop is left where nothing is left to do
+going_last : {l : Lengths} {e₀ : Reply} {bytes : List ℕ} {stage : Stage} {begin place sent decided : ℕ} → Going l e₀ bytes stage begin place sent decided → decided ≤ 3 → Rests stage (drop place bytes)
     → Worked l e₀ bytes stage begin place sent decided
 going_last {l} {e₀} {bytes} {stage} {begin} {place} {sent} {decided} g k r =
     record {
@@ -280,7 +214,7 @@ going_last {l} {e₀} {bytes} {stage} {begin} {place} {sent} {decided} g k r =
       few = omega (arith, g.room);
     }
 
-pub settled : (stage : Stage) (rest : List ℕ) → rank stage ≤ 0 → Rests stage rest
+settled : (stage : Stage) (rest : List ℕ) → rank stage ≤ 0 → Rests stage rest
 settled (Awaiting (NegotiationRes m)) rest z = absurd (omega arith)
 settled (Awaiting AuthenticationRes) rest z = absurd (omega arith)
 settled (Awaiting ProxyRes) rest z = absurd (omega arith)
@@ -288,65 +222,44 @@ settled (Awaiting Response) rest z = absurd (omega arith)
 settled Open rest z = tt
 settled (Failed x) rest z = tt
 
--- ---- a turn as the code makes it
+pub rank_none : (stage : Stage) → ((e : Reply) → stage ≡ Awaiting e → ⊥) → rank stage ≤ 0
+rank_none (Awaiting e) h = absurd (h e refl)
+rank_none Open h = zero-le
+rank_none (Failed x) h = zero-le
 
-pub turn_settled : (l : Lengths) (stage : Stage) (bytes : List ℕ) (begin place sent decided : ℕ) → rank stage ≡ 0 → Turns l stage bytes begin place sent decided stage begin place sent decided false
-turn_settled l (Awaiting e) bytes begin place sent decided z = absurd (awaits e z)
-turn_settled l Open bytes begin place sent decided z = record { staged = refl; begun = refl; counted = sym (add-zero sent); placed = sym (add-zero place); tried = sym (add-zero decided); falls = λ a. absurd (clash (sym a)); rests = λ a. tt }
-turn_settled l (Failed x) bytes begin place sent decided z = record { staged = refl; begun = refl; counted = sym (add-zero sent); placed = sym (add-zero place); tried = sym (add-zero decided); falls = λ a. absurd (clash (sym a)); rests = λ a. tt }
+some_is : {a b : Turn} → ◌≡◌ {A = Option Turn} (Some a) (Some b) → a ≡ b
+some_is q = cc
 
-pub judged_small : (l : Lengths) (e : Reply) (v : Verdict) {r : Due} → r ≡ due_judged l e v → r.len ≤ 775
-judged_small l e Good q = rw q (omega (arith, still_after l e, still_small e))
-judged_small l e (Bad x) q = rw q zero-le
+none_some : {a : Turn} → ◌≡◌ {A = Option Turn} None (Some a) → ⊥
+none_some q = let z : ◌≡◌ {A = ℕ} 0 1 = cc in omega arith
 
-module _ (l : Lengths) (e : Reply) (bytes : List ℕ) (begin place sent decided : ℕ) {d : Decision} (p : d ≡ decide e (drop place bytes)) where
-  pub turn_undecided : byte (drop place bytes) 4 ≤ 255 → d ≡ Undecided → Turns l (Awaiting e) bytes begin place sent decided (Awaiting e) place place sent decided false
-  turn_undecided y q =
-      let u : decide e (drop place bytes) ≡ Undecided = sym p ∙ q in
-      record {
-        staged = rw u;
-        begun = refl;
-        counted = rw u (sym (add-zero sent));
-        placed = rw u (sym (add-zero place));
-        tried = rw u (sym (add-zero decided));
-        falls = λ z. absurd (clash (sym z));
-        rests = λ z. (u, undecided_by e (drop place bytes) y u);
-      }
+module _ {l : Lengths} {e₀ : Reply} {bytes : List ℕ} {left : ℕ} where
+  -- a reply was read
+  pub loops_on : {t t' : Turn} {e : Reply} {r : Option Turn} → Loops l e₀ bytes t left → t.stage ≡ Awaiting e → r ≡ turned l e t (decide e (drop t.place bytes)) → r ≡ Some t' → {left' : ℕ} → left' ≡ left - 1 → Loops l e₀ bytes t' left'
+  loops_on {t} {t'} {e} g s q h y = rw y (go (decide e (drop t.place bytes)) refl (sym q ∙ h))
+    where
+      waits : Going l e₀ bytes (Awaiting e) t.begin t.place t.sent t.decided
+      waits = let z = g.going in rw s at z
 
-  module _ {n : ℕ} {v : Verdict} (q : d ≡ Decided n v) where
-    pub decided_inside : place ≤ length bytes → place + n ≤ length bytes
-    decided_inside h = omega (arith, decided_within e (drop place bytes) n v (sym p ∙ q), length-drop place bytes)
+      few : rank (Awaiting e) ≤ left
+      few = let z = g.ends in rw s at z
 
-    pub turn_decided_lem : place ≤ length bytes → {r : Due} → r ≡ due_judged l e v → {total : ℕ} → total ≡ length bytes → {again : Bool} → again ≡ goes_on r.stage (place + n) total
-        → Turns l (Awaiting e) bytes begin place sent decided r.stage place (place + n) (sent + r.len) (decided + 1) again
-    turn_decided_lem h {r} s {total} t {again} g =
-        let u : decide e (drop place bytes) ≡ Decided n v = sym p ∙ q in
-        record {
-          staged = rw (u, s);
-          begun = refl;
-          counted = rw (u, s);
-          placed = rw u;
-          tried = rw u;
-          falls = λ z. falls_judged v s (sym g ∙ z);
-          rests = λ z. rests_at r.stage (sym g ∙ z);
-        }
-      where
-        falls_judged : (v : Verdict) → r ≡ due_judged l e v → goes_on r.stage (place + n) total ≡ true → rank r.stage < rank (Awaiting e)
-        falls_judged Good s z = rw s (rank_falls l e)
-        falls_judged (Bad x) s z = let k : false ≡ true = rw s at z in absurd (clash (sym k))
+      go : (d : Decision) → decide e (drop t.place bytes) ≡ d → turned l e t d ≡ Some t' → Loops l e₀ bytes t' (left - 1)
+      go Undecided q h = absurd (none_some h)
+      go (Decided n Good) q h =
+          rw (sym (some_is h)) (record { going = on_good e n q waits; ends = omega (arith, few, rank_falls l e); most = omega (arith, g.most, few, rank_falls l e) })
+      go (Decided n (Bad x)) q h =
+          rw (sym (some_is h)) (record { going = rw (add-zero t.sent) (on_bad e n x q waits); ends = zero-le; most = omega (arith, g.most, few, rank_falls l e) })
 
-        rests_at : (stage : Stage) → goes_on stage (place + n) total ≡ false → Rests stage (drop (place + n) bytes)
-        rests_at (Awaiting w) z = none_left w (drop (place + n) bytes) (length-drop (place + n) bytes ∙ (let k = ltb-false (place + n) total z in omega arith))
-        rests_at Open z = tt
-        rests_at (Failed x) z = tt
+  -- the reply is undecided
+  pub loops_undecided : {t : Turn} {e : Reply} {r : Option Turn} → Loops l e₀ bytes t left → t.stage ≡ Awaiting e → r ≡ turned l e t (decide e (drop t.place bytes)) → r ≡ None → length (drop t.place bytes) ≤ 261
+      → Worked l e₀ bytes t.stage t.begin t.place t.sent t.decided
+  loops_undecided {t} {e} g s q h few = going_last g.going (omega (arith, g.most)) (rw s (go (decide e (drop t.place bytes)) (sym q ∙ h), few))
+    where
+      go : (d : Decision) → turned l e t d ≡ None → d ≡ Undecided
+      go Undecided h = refl
+      go (Decided n v) h = absurd (none_some (sym h))
 
-module _ {l : Lengths} {began : Stage} {bytes : List ℕ} {stage : Stage} {begin place sent decided left : ℕ} where
-  module _ {stage' : Stage} {begin' place' sent' decided' : ℕ} {again : Bool} where
-    pub loops_on : Loops l began bytes stage begin place sent decided left → Turns l stage bytes begin place sent decided stage' begin' place' sent' decided' again → again ≡ true → Loops l began bytes stage' begin' place' sent' decided' (left - 1)
-    loops_on g t a = let f = t.falls a in let k = g.ends in record { reply = g.reply; first = g.first; going = going_on stage g.going t; ends = omega arith; most = omega (arith, g.most, t.tried, (turn_few stage (drop place bytes)).0) }
-
-    pub loops_break : (e : Reply) → began ≡ Awaiting e → Loops l began bytes stage begin place sent decided left → Turns l stage bytes begin place sent decided stage' begin' place' sent' decided' again → again ≡ false → Worked l e bytes stage' begin' place' sent' decided'
-    loops_break e q g t a = rw (same_reply (sym q ∙ g.first)) (going_last (going_on stage g.going t) (omega (arith, g.most, g.ends, t.tried, (turn_few stage (drop place bytes)).1)) (t.rests a))
-
-  pub loops_end : (e : Reply) → began ≡ Awaiting e → Loops l began bytes stage begin place sent decided left → left ≤ 0 → Worked l e bytes stage begin place sent decided
-  loops_end e q g z = let k = g.ends in rw (same_reply (sym q ∙ g.first)) (going_last g.going (omega (arith, g.most)) (settled stage (drop place bytes) (omega arith)))
+  -- no reply is awaited
+  pub loops_settled : {t : Turn} → Loops l e₀ bytes t left → rank t.stage ≤ 0 → Worked l e₀ bytes t.stage t.begin t.place t.sent t.decided
+  loops_settled {t} g z = going_last g.going (omega (arith, g.most)) (settled t.stage (drop t.place bytes) z)

@@ -11,10 +11,7 @@ use borrow.Author.Tests.{leb-true, leb-false, le-ltb, eqb-true, eqb-false, ne_eq
 use Rattle.protocol.specs.declared.SocksError.TheVariants.{Parsing, Command}
 use Rattle.protocol.specs.declared.Reply.TheVariants.{ProxyRes}
 use Rattle.protocol.specs.declared.Utf8State.TheVariants.{Boundary}
-use Rattle.protocol.specs.declared.Verdict.{Verdict}
-use Rattle.protocol.specs.declared.Verdict.TheVariants.{Good, Bad}
-use Rattle.protocol.specs.declared.Decision.{Decision}
-use Rattle.protocol.specs.declared.Decision.TheVariants.{Undecided, Decided}
+use Rattle.protocol.specs.Answers.{Verdict, Good, Bad, Decision, Undecided, Decided}
 use Rattle.protocol.specs.Bytes.{Bytes, byte}
 use Rattle.protocol.specs.Utf8.{Utf8, class_of, first, next, scan, is_boundary, is_utf8}
 use Rattle.protocol.specs.Replies.{upon, head_allowed, type_allowed, proxy_size, name_field, proxy_verdict, proxy_at, decide}

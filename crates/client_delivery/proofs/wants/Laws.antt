@@ -35,13 +35,14 @@ connect_short [] k = and_true (begins_with 0x05 [])
 connect_short (a ∷ []) k = and_true (begins_with 0x05 (a ∷ []))
 connect_short (a ∷ b ∷ h) k = absurd (omega arith)
 
-pub connect_first : (h : List ℕ) → 2 ≤ length h → byte h 0 ≡ 0x05 → eqb (byte h 1) 0x00 ≡ may_connect h
-unfolding may_connect
-connect_first h k e = rw (← begins_first 0x05 h (λ z. omega arith), eq-eqb (byte h 0) 0x05 e)
+module _ (h : List ℕ) {x : Bool} (e : x ≡ begins_with 0x05 h) where
+  pub connect_on : x ≡ true → eqb (byte h 1) 0x00 ≡ may_connect h
+  unfolding may_connect
+  connect_on q = rw (sym e ∙ q)
 
-pub connect_other : (h : List ℕ) → 2 ≤ length h → (byte h 0 ≡ 0x05 → ⊥) → eqb (byte h 0) 0x05 ≡ may_connect h
-unfolding may_connect
-connect_other h k e = rw (← begins_first 0x05 h (λ z. omega arith), ne_eqb (byte h 0) 0x05 e)
+  pub connect_off : x ≡ false → false ≡ may_connect h
+  unfolding may_connect
+  connect_off q = rw (sym e ∙ q)
 
 pub least_whole : (h : List ℕ) (r : ℕ) → 5 ≤ length h → (5 + r ≡ proxy_size (byte h 3) (byte h 4)) × (r ≤ 257) → (5 + r ≡ proxy_least h) × (5 + r ≤ 262)
 unfolding proxy_least

@@ -11,10 +11,7 @@ use Rattle.protocol.specs.declared.AuthMethod.{AuthMethod}
 use Rattle.protocol.specs.declared.AuthMethod.TheVariants.{NoAuth, UserPass, NoneAcceptable}
 use Rattle.protocol.specs.declared.Reply.{Reply}
 use Rattle.protocol.specs.declared.Reply.TheVariants.{NegotiationRes, AuthenticationRes, ProxyRes, Response}
-use Rattle.protocol.specs.declared.Verdict.{Verdict}
-use Rattle.protocol.specs.declared.Verdict.TheVariants.{Good}
-use Rattle.protocol.specs.declared.Decision.{Decision}
-use Rattle.protocol.specs.declared.Decision.TheVariants.{Undecided, Decided}
+use Rattle.protocol.specs.Answers.{Verdict, Good, Decision, Undecided, Decided}
 use Rattle.protocol.specs.Bytes.{Bytes, byte}
 use Rattle.protocol.specs.Bound.{Endpoint}
 use Rattle.protocol.specs.Grammar.{Word, method_00, method_02, accepted, connected, granted}

@@ -3,6 +3,7 @@ use Prim.Native.Nat.{ℕ, ◌+◌, ◌-◌, ◌≤◌, ◌<◌, min}
 use native.Mathlib.Omega.{arith}
 use mathlib.Core.Path.{◌≡◌, refl, ap, sym, ◌∙◌}
 use mathlib.Core.Bool.{Bool, true, false}
+use mathlib.Core.Logic.{◌⊎◌, inl, inr}
 use mathlib.Core.List.{List, [], ◌∷◌}
 use lib.ListN.{length, take, drop, length-take, length-drop}
 use lib.Dec.{eqb}
@@ -10,6 +11,7 @@ use borrow.Author.Tests.{lt-ltb, le-ltb, eq-eqb, ne_eqb}
 use Rattle.protocol.specs.declared.AuthMethod.{AuthMethod}
 use Rattle.protocol.specs.declared.Utf8State.{Utf8State}
 use Rattle.protocol.specs.declared.Utf8State.TheVariants.{Boundary}
+use Rattle.protocol.specs.declared.Reply.{Reply}
 use Rattle.protocol.specs.declared.Reply.TheVariants.{NegotiationRes, AuthenticationRes, ProxyRes, Response}
 use Rattle.protocol.specs.Bytes.{byte}
 use Rattle.protocol.specs.Utf8.{scan}
@@ -37,6 +39,10 @@ module _ (h : List ℕ) where
   pub type_six : (byte h 3 ≡ 0x01 → ⊥) → byte h 3 ≡ 0x04 → true ≡ type_still h
   unfolding type_still
   type_six d e = rw (ne_eqb (byte h 3) 0x01 d, eq-eqb (byte h 3) 0x04 e)
+
+  pub type_known : (byte h 3 ≡ 0x01) ⊎ (byte h 3 ≡ 0x04) → true ≡ type_still h
+  type_known (inl e) = type_four e
+  type_known (inr e) = type_six (λ z. omega arith) e
 
   pub type_none : (byte h 3 ≡ 0x01 → ⊥) → (byte h 3 ≡ 0x04 → ⊥) → (byte h 3 ≡ 0x03 → ⊥) → false ≡ type_still h
   unfolding type_still
@@ -103,3 +109,7 @@ shortest_proxy = refl
 pub shortest_response : 8 ≡ wants_for Response []
 unfolding lacking
 shortest_response = refl
+
+pub shortest_last : (e : Reply) → (e ≡ ProxyRes) ⊎ (e ≡ Response) → 8 ≡ wants_for e []
+shortest_last e (inl q) = rw q shortest_proxy
+shortest_last e (inr q) = rw q shortest_response

@@ -1,36 +1,30 @@
 -- What the checks' tests tell: a kind of the text that it stands for, a chosen record of the records; and what the parts of a check come to.
-use mathlib.Core.Path.{◌≡◌, refl, ap, ◌∙◌}
-use mathlib.Core.Bool.{Bool, true, false, cond, not, ◌&&◌, ◌||◌}
+use mathlib.Core.Path.{◌≡◌, refl, ap, sym, ◌∙◌}
+use mathlib.Core.Bool.{Bool, true, false, ◌&&◌, ◌||◌}
 use mathlib.Core.List.{List, [], ◌∷◌}
 use Prim.Native.Nat.{ℕ, suc}
 use native.Mathlib.Omega.{arith}
 use lib.ListN.{length}
 use lib.Dec.{ltb}
 use borrow.Author.Tests.{ne_eqb}
-use Rattle.protocol.specs.declared.AddressKind.{AddressKind}
-use Rattle.protocol.specs.declared.Answer.{Answer}
-use Rattle.protocol.specs.declared.Port.{Port}
+use Rattle.protocol.specs.Answers.{Answer, Port, Accepted, Refused}
 use Rattle.protocol.specs.declared.Record.{Record}
 use Rattle.protocol.specs.declared.SocksConfig.{SocksConfig}
-use Rattle.protocol.specs.declared.SocksError.TheVariants.{CredentialTooLong, IpV6, AnnouncesName}
-use Rattle.protocol.specs.declared.Answer.TheVariants.{Accepted}
+use Rattle.protocol.specs.declared.SocksError.{SocksError}
+use Rattle.protocol.specs.declared.SocksError.TheVariants.{HostTooLong, DnsFailure}
 use Rattle.protocol.specs.Host.{strip}
 use Rattle.protocol.specs.AddressReading.{Destination, ipv4, ipv6, domain, destination_of}
 use Rattle.protocol.specs.Requests.{kind_of}
-use Rattle.protocol.specs.Opening.{refuse, is_empty, is_name, is_ipv6, is_none, is_announcing, first_record, first_four, asked4, check5, check4}
+use Rattle.protocol.specs.Opening.{refuse, is_empty, is_ipv6, is_none as no_value, is_announcing, first_four, asked4, check5, check4}
 use Rattle.address_text.specs.declared.ipv4.AddressText.{AddressText}
 use Rattle.address_text.specs.ipv4.Answers.{address_text}
 use Rattle.client_opening.proofs.host.Laws.{read_name}
-use Rattle.client_opening.specs.checks.Checks.{check_shared, check_name, check_by5, check_by4}
+use Rattle.client_opening.specs.checks.Checks.{check_name, check_by5, check_by4}
 
 ipv6_kind : (d : Destination) → is_ipv6 (kind_of (address_text d).kind []) ≡ is_ipv6 d
 ipv6_kind (ipv4 bs) = refl
 ipv6_kind (ipv6 bs) = refl
 ipv6_kind (domain s) = refl
-
-pub none_found : (found : Bool) (r : Record) → not found ≡ is_none (first_record (cond found (r ∷ []) []))
-none_found true r = refl
-none_found false r = refl
 
 -- ---- what the parts of a check come to
 
@@ -40,16 +34,17 @@ unfolding strip
 stripped_empty [] = refl
 stripped_empty (a ∷ h) = rw (ne_eqb (suc (length h)) 0 (λ e. absurd (omega arith)))
 
-module _ (text : List ℕ) (kind : AddressKind) (port : Port) (records : List Record) {name : Bool} (n : name ≡ is_name (kind_of kind [])) where
-  pub checked5 : (config : SocksConfig) (user password : List ℕ) {none long : Bool} {named own r : Answer} → none ≡ is_none (first_record records) → named ≡ check_name name text 255 config.local_dns none Accepted
-      → long ≡ (config.proxy_auth && (ltb 255 (length user) || ltb 255 (length password))) → own ≡ refuse long CredentialTooLong named
-      → r ≡ check_shared text port own → r ≡ check_by5 config text kind port user password records
-  checked5 config user password f d l o e = e ∙ rw (o, d, l, f, n)
+refused_not : {x : SocksError} → Refused x ≡ Accepted → ⊥
+refused_not e = let z : ◌≡◌ {A = ℕ} 0 1 = cc in absurd (omega arith)
 
-  pub checked4 : (local_dns announcing : Bool) {none six : Bool} {last named own r : Answer} → last ≡ refuse announcing AnnouncesName Accepted → none ≡ is_none (first_four records)
-      → named ≡ check_name name text 1014 local_dns none last → six ≡ is_ipv6 (kind_of kind []) → own ≡ refuse six IpV6 named → r ≡ check_shared text port own
-      → r ≡ check_by4 local_dns text kind port records announcing
-  checked4 local_dns announcing a f d s o e = e ∙ rw (o, d, a, s, f, n)
+-- what is refused of a name is refused whatever is checked later
+pub stops : (name : Bool) (text : List ℕ) (most : ℕ) (lookup none : Bool) (later : Answer) {x : SocksError} → check_name name text most lookup none Accepted ≡ Refused x → check_name name text most lookup none later ≡ Refused x
+stops name text most lookup none later {x} e = go (name && ltb most (length text)) (lookup && (name && none)) e
+  where
+    go : (a b : Bool) → refuse a HostTooLong (refuse b DnsFailure Accepted) ≡ Refused x → refuse a HostTooLong (refuse b DnsFailure later) ≡ Refused x
+    go true b e = e
+    go false true e = e
+    go false false e = absurd (refused_not (sym e))
 
 -- ---- the checks of a host by what was read of it are those of protocol
 
@@ -60,7 +55,7 @@ module _ (host : List ℕ) (port : Port) (records : List Record) {read : Address
   checks5 config user password = rw (read_name host read e, stripped_empty host)
 
   pub checks4 : (local_dns : Bool)
-      → check_by4 local_dns (strip host) read.kind port records (is_announcing (asked4 local_dns records (destination_of (strip host)))) ≡ check4 (record { local_dns = local_dns; host = host; port = port; records = records })
+      → check_by4 local_dns (strip host) read.kind port (no_value (first_four records)) (is_announcing (asked4 local_dns records (destination_of (strip host)))) ≡ check4 (record { local_dns = local_dns; host = host; port = port; records = records })
   unfolding check4
   checks4 local_dns =
       let v : is_ipv6 (kind_of read.kind []) ≡ is_ipv6 (destination_of (strip host)) = ap (λ (t : AddressText). is_ipv6 (kind_of t.kind [])) e ∙ ipv6_kind (destination_of (strip host)) in

@@ -1,24 +1,22 @@
--- What is asked for, as it was read or looked up, is what the definitions ask for; and of what kind it is.
-use Prim.Native.Nat.{ℕ, ◌≤◌}
+-- What is asked for, as it was read or looked up, is what the definitions ask for.
+use Prim.Native.Nat.{ℕ}
 use native.Mathlib.Omega.{arith}
 use mathlib.Core.Path.{◌≡◌, refl, ap, sym}
-use mathlib.Core.Bool.{Bool, true, false, cond, not, ◌&&◌}
+use mathlib.Core.Bool.{Bool, true, false, cond}
 use mathlib.Core.List.{List, [], ◌∷◌}
 use lib.ListN.{length, take, replicate, length-take}
 use lib.Seq.{take_at}
-use Rattle.protocol.specs.declared.AddressKind.{AddressKind}
-use Rattle.protocol.specs.declared.AddressKind.TheVariants.{Ipv4, Ipv6, Domain}
+use Rattle.std.specs.Prelude.{Option, None, Some}
 use Rattle.protocol.specs.declared.Family.{Family}
 use Rattle.protocol.specs.declared.Family.TheVariants.{Four, Six}
 use Rattle.protocol.specs.declared.Record.{Record}
 use Rattle.protocol.specs.AddressReading.{Destination, ipv4, ipv6, domain, destination_of}
-use Rattle.protocol.specs.Requests.{kind_of, address, name}
-use Rattle.protocol.specs.Opening.{is_name, is_ipv6, is_none, first_four, record_family, asked5, asked4}
+use Rattle.protocol.specs.Requests.{address, name}
+use Rattle.protocol.specs.Opening.{first_four, record_family, asked5, asked4}
 use Rattle.protocol.proofs.Destinations.{domain_is, ipv4_length}
 use Rattle.address_text.specs.declared.ipv4.AddressText.{AddressText}
 use Rattle.address_text.specs.ipv4.Answers.{address_text}
-use Rattle.lookup.specs.declared.Lookup.{Lookup}
-use Rattle.lookup.specs.Chosen.{records_of}
+use Rattle.lookup.specs.Chosen.{chosen_of, records_of}
 use Rattle.client_opening.specs.common.Asked.{record_kind, asked_text, target_by, target5, target4}
 
 -- ---- the destination
@@ -27,59 +25,51 @@ by_family : (f : Family) (bs text : List ℕ) → target_by (record_kind f) bs t
 by_family Four bs text = refl
 by_family Six bs text = refl
 
-module _ (s : List ℕ) (l : Bool) (chosen : Lookup) where
-  pub asks5 : {read : AddressText} → read ≡ address_text (destination_of s) → target5 (asked_text read (l && chosen.found) chosen.first) s ≡ asked5 l (records_of chosen) (destination_of s)
-  asks5 e = rw e (go (destination_of s) refl l chosen.found)
+module _ (s : List ℕ) (l : Bool) (chosen : Option Record) where
+  pub asks5 : {read : AddressText} → read ≡ address_text (destination_of s) → target5 (asked_text read (cond l chosen None)) s ≡ asked5 l (records_of chosen) (destination_of s)
+  asks5 e = rw e (go (destination_of s) refl l chosen)
     where
-      go : (d : Destination) → destination_of s ≡ d → (b c : Bool) → target5 (asked_text (address_text d) (b && c) chosen.first) s ≡ asked5 b (cond c (chosen.first ∷ []) []) d
-      go (ipv4 bs) q b c = ap ipv4 (take_at bs (replicate 12 0) 4 (ipv4_length s bs q))
-      go (ipv6 bs) q b c = refl
-      go (domain n) q true true = by_family chosen.first.family chosen.first.address s
-      go (domain n) q true false = ap domain (sym (domain_is s n q))
+      go : (d : Destination) → destination_of s ≡ d → (b : Bool) (c : Option Record) → target5 (asked_text (address_text d) (cond b c None)) s ≡ asked5 b (records_of c) d
+      go (ipv4 bs) q false c = ap ipv4 (take_at bs (replicate 12 0) 4 (ipv4_length s bs q))
+      go (ipv4 bs) q true None = ap ipv4 (take_at bs (replicate 12 0) 4 (ipv4_length s bs q))
+      go (ipv4 bs) q true (Some r) = ap ipv4 (take_at bs (replicate 12 0) 4 (ipv4_length s bs q))
+      go (ipv6 bs) q false c = refl
+      go (ipv6 bs) q true None = refl
+      go (ipv6 bs) q true (Some r) = refl
       go (domain n) q false c = ap domain (sym (domain_is s n q))
+      go (domain n) q true None = ap domain (sym (domain_is s n q))
+      go (domain n) q true (Some r) = by_family r.family r.address s
 
-  pub asks4 : {read : AddressText} → read ≡ address_text (destination_of s) → target4 (asked_text read (l && not (is_none (first_four (records_of chosen)))) chosen.first) s ≡ asked4 l (records_of chosen) (destination_of s)
+  pub asks4 : {read : AddressText} → read ≡ address_text (destination_of s)
+      → target4 (asked_text read (cond l (chosen_of true (records_of chosen)) None)) s ≡ asked4 l (records_of chosen) (destination_of s)
   unfolding first_four
-  asks4 e = rw e (go (destination_of s) refl l chosen.found chosen.first.family chosen.first.address)
+  asks4 e = rw e (by_record l chosen)
     where
-      go : (d : Destination) → destination_of s ≡ d → (b c : Bool) (f : Family) (bs : List ℕ) → let r : Record = record { family = f; address = bs } in let rs = cond c (r ∷ []) [] in
-          target4 (asked_text (address_text d) (b && not (is_none (first_four rs))) r) s ≡ asked4 b rs d
-      go (ipv4 ip) q b c f bs = ap address (take_at ip (replicate 12 0) 4 (ipv4_length s ip q))
-      go (ipv6 ip) q b c f bs = refl
-      go (domain n) q false c f bs = ap name (sym (domain_is s n q))
-      go (domain n) q true false f bs = ap name (sym (domain_is s n q))
-      go (domain n) q true true Four bs = refl
-      go (domain n) q true true Six bs = ap name (sym (domain_is s n q))
+      go : (d : Destination) → destination_of s ≡ d → (b : Bool) (f : Family) (bs : List ℕ) → let r : Record = record { family = f; address = bs } in
+          target4 (asked_text (address_text d) (cond b (chosen_of true (r ∷ [])) None)) s ≡ asked4 b (r ∷ []) d
+      go (ipv4 ip) q false f bs = ap address (take_at ip (replicate 12 0) 4 (ipv4_length s ip q))
+      go (ipv4 ip) q true Four bs = ap address (take_at ip (replicate 12 0) 4 (ipv4_length s ip q))
+      go (ipv4 ip) q true Six bs = ap address (take_at ip (replicate 12 0) 4 (ipv4_length s ip q))
+      go (ipv6 ip) q false f bs = refl
+      go (ipv6 ip) q true Four bs = refl
+      go (ipv6 ip) q true Six bs = refl
+      go (domain n) q false f bs = ap name (sym (domain_is s n q))
+      go (domain n) q true Four bs = refl
+      go (domain n) q true Six bs = ap name (sym (domain_is s n q))
 
--- ---- its kind
+      none : (d : Destination) → destination_of s ≡ d → (b : Bool) → target4 (asked_text (address_text d) (cond b None None)) s ≡ asked4 b [] d
+      none (ipv4 ip) q false = ap address (take_at ip (replicate 12 0) 4 (ipv4_length s ip q))
+      none (ipv4 ip) q true = ap address (take_at ip (replicate 12 0) 4 (ipv4_length s ip q))
+      none (ipv6 ip) q false = refl
+      none (ipv6 ip) q true = refl
+      none (domain n) q false = ap name (sym (domain_is s n q))
+      none (domain n) q true = ap name (sym (domain_is s n q))
 
--- a name is asked for only if a name was read
-pub asked_name : (read : AddressText) (found : Bool) (r : Record) → (asked_text read found r).kind ≡ Domain → is_name (kind_of read.kind []) ≡ true
-asked_name read found r = go read.kind
-  where
-    go : (k : AddressKind) → (asked_text (record { kind = k; bytes = read.bytes }) found r).kind ≡ Domain → is_name (kind_of k []) ≡ true
-    go Ipv4 e = let z : ◌≡◌ {A = ℕ} 0 1 = cc in absurd (omega arith)
-    go Ipv6 e = let z : ◌≡◌ {A = ℕ} 0 1 = cc in absurd (omega arith)
-    go Domain e = refl
-
--- over v4 an IPv6 address is asked for only if one was read
-pub asked_ipv6 : (read : AddressText) (l : Bool) (chosen : Lookup) → (asked_text read (l && not (is_none (first_four (records_of chosen)))) chosen.first).kind ≡ Ipv6 → is_ipv6 (kind_of read.kind []) ≡ true
-unfolding first_four
-asked_ipv6 read l chosen = go read.kind l chosen.found chosen.first.family
-  where
-    go : (k : AddressKind) (b c : Bool) (f : Family) → let r : Record = record { family = f; address = chosen.first.address } in
-        (asked_text (record { kind = k; bytes = read.bytes }) (b && not (is_none (first_four (cond c (r ∷ []) [])))) r).kind ≡ Ipv6 → is_ipv6 (kind_of k []) ≡ true
-    go Ipv4 b c f e = let z : ◌≡◌ {A = ℕ} 0 1 = cc in absurd (omega arith)
-    go Ipv6 b c f e = refl
-    go Domain false c f e = let z : ◌≡◌ {A = ℕ} 0 1 = cc in absurd (omega arith)
-    go Domain true false f e = let z : ◌≡◌ {A = ℕ} 0 1 = cc in absurd (omega arith)
-    go Domain true true Four e = let z : ◌≡◌ {A = ℕ} 0 1 = cc in absurd (omega arith)
-    go Domain true true Six e = let z : ◌≡◌ {A = ℕ} 0 1 = cc in absurd (omega arith)
+      by_record : (b : Bool) (c : Option Record) → target4 (asked_text (address_text (destination_of s)) (cond b (chosen_of true (records_of c)) None)) s ≡ asked4 b (records_of c) (destination_of s)
+      by_record b None = none (destination_of s) refl b
+      by_record b (Some r) = go (destination_of s) refl b r.family r.address
 
 -- ---- the four bytes of an IPv4 address, of sixteen
-
-pub four_long : {n : ℕ} → n ≡ 16 → 4 ≤ n
-four_long l = omega arith
 
 pub four_size : (bs : List ℕ) → length bs ≡ 16 → 4 ≡ length (take 4 bs)
 four_size bs l = omega (arith, length-take 4 bs)

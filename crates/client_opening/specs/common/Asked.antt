@@ -1,5 +1,5 @@
 -- 01, "Opening v5" and "Opening v4", and F-7: what an opening asks for: the host as it was read, or the record that was looked up for it.
-use Rattle.std.specs.Prelude.{ℕ, Bool, cond, ◌&&◌, List, [], take}
+use Rattle.std.specs.Prelude.{ℕ, cond, List, [], take, Option, None, Some}
 use Rattle.protocol.specs.declared.AddressKind.{AddressKind}
 use Rattle.protocol.specs.declared.AddressKind.TheVariants.{Ipv4, Ipv6, Domain}
 use Rattle.protocol.specs.declared.Family.{Family}
@@ -18,8 +18,9 @@ abbrev pub record_text : Record → AddressText
 record_text r = record { kind = record_kind r.family; bytes = r.address }
 
 -- what was read, or for a name that was looked up the record found
-abbrev pub asked_text : AddressText → Bool → Record → AddressText
-asked_text read found r = cond (is_name (kind_of read.kind []) && found) (record_text r) read
+abbrev pub asked_text : AddressText → Option Record → AddressText
+asked_text read None = read
+asked_text read (Some r) = cond (is_name (kind_of read.kind [])) (record_text r) read
 
 -- the destination that this stands for, with the host's text
 abbrev pub target_by : AddressKind → List ℕ → List ℕ → Destination

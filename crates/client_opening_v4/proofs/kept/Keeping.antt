@@ -6,8 +6,7 @@ use mathlib.Core.List.{List}
 use lib.ListN.{take, replicate}
 use Rattle.protocol.specs.declared.AddressKind.{AddressKind}
 use Rattle.protocol.specs.declared.AddressKind.TheVariants.{Ipv4, Domain}
-use Rattle.protocol.specs.declared.Answer.TheVariants.{Accepted}
-use Rattle.protocol.specs.declared.Port.{Port}
+use Rattle.protocol.specs.Answers.{Accepted, Port}
 use Rattle.protocol.specs.declared.Reply.TheVariants.{Response}
 use Rattle.protocol.specs.Requests.{Destination4, address, name, request}
 use Rattle.protocol.specs.Opening.{v4, port_number}

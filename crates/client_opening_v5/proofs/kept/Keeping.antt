@@ -8,9 +8,8 @@ use mathlib.Core.List.{List, []}
 use lib.ListN.{length, take, replicate, take-append-drop}
 use Rattle.protocol.specs.declared.AddressKind.{AddressKind}
 use Rattle.protocol.specs.declared.AddressKind.TheVariants.{Ipv4, Ipv6, Domain}
-use Rattle.protocol.specs.declared.Answer.TheVariants.{Accepted}
+use Rattle.protocol.specs.Answers.{Accepted, Port}
 use Rattle.protocol.specs.declared.AuthMethod.{AuthMethod}
-use Rattle.protocol.specs.declared.Port.{Port}
 use Rattle.protocol.specs.declared.Reply.TheVariants.{NegotiationRes}
 use Rattle.protocol.specs.AddressReading.{Destination}
 use Rattle.protocol.specs.Requests.{negotiation_req, proxy_req, kind_of}

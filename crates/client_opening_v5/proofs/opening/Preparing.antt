@@ -1,12 +1,12 @@
 -- Preparing over v5: its checks, what is asked for, and what it returns.
 use Prim.Native.Nat.{ℕ}
 use mathlib.Core.Path.{◌≡◌, ap, sym, ◌∙◌}
-use mathlib.Core.Bool.{Bool, ◌&&◌}
+use mathlib.Core.Bool.{cond}
 use mathlib.Core.List.{List}
 use lib.ListN.{replicate}
-use Rattle.protocol.specs.declared.Answer.{Answer}
-use Rattle.protocol.specs.declared.Answer.TheVariants.{Accepted, Refused}
-use Rattle.protocol.specs.declared.Port.{Port}
+use Rattle.std.specs.Prelude.{Option, None}
+use Rattle.protocol.specs.declared.Record.{Record}
+use Rattle.protocol.specs.Answers.{Answer, Refused, Port}
 use Rattle.protocol.specs.declared.SocksConfig.{SocksConfig}
 use Rattle.protocol.specs.declared.SocksError.{SocksError}
 use Rattle.protocol.specs.Host.{strip}
@@ -14,7 +14,6 @@ use Rattle.protocol.specs.AddressReading.{Destination, destination_of}
 use Rattle.protocol.specs.Opening.{Opening, v5, credentials_if, port_number, opening5}
 use Rattle.address_text.specs.declared.ipv4.AddressText.{AddressText}
 use Rattle.address_text.specs.ipv4.Answers.{address_text}
-use Rattle.lookup.specs.declared.Lookup.{Lookup}
 use Rattle.lookup.specs.Chosen.{records_of}
 use Rattle.client_opening.specs.checks.Checks.{check_by5}
 use Rattle.client_opening.proofs.checks.Laws.{checks5}
@@ -24,11 +23,10 @@ use Rattle.client_session.specs.Calls.{nothing_kept, prepared_by, prepare5}
 use Rattle.client_opening.specs.declared.common.Begun.{Begun}
 use Rattle.client_opening.specs.common.Asked.{asked_text, target5}
 use Rattle.client_opening.specs.common.Begun.{prepared_with}
-use Rattle.client_opening.proofs.common.Targets.{asked_name, asks5}
-use Rattle.client_opening.proofs.common.Accepting.{accepted5, prepares_refused}
-use Rattle.client_opening_v5.specs.kept.Accepted.{Short5}
+use Rattle.client_opening.proofs.common.Targets.{asks5}
+use Rattle.client_opening.proofs.common.Accepting.{prepares_refused}
 
-module _ (config : SocksConfig) (host : List ℕ) (read : AddressText) (port : Port) (user password : List ℕ) (chosen : Lookup) where
+module _ (config : SocksConfig) (host : List ℕ) (read : AddressText) (port : Port) (user password : List ℕ) (chosen : Option Record) where
   abbrev answer : List ℕ → Answer
   answer text = check_by5 config text read.kind port user password (records_of chosen)
 
@@ -36,7 +34,7 @@ module _ (config : SocksConfig) (host : List ℕ) (read : AddressText) (port : P
   asking d = v5 (credentials_if config.proxy_auth user password) d (port_number port) config.optimistic
 
   abbrev wanted : AddressText
-  wanted = asked_text read (config.local_dns && chosen.found) chosen.first
+  wanted = asked_text read (cond config.local_dns chosen None)
 
   -- what is returned, by the host without its brackets
   abbrev returned : Prepared
@@ -46,18 +44,6 @@ module _ (config : SocksConfig) (host : List ℕ) (read : AddressText) (port : P
   module _ {text : List ℕ} {x : Answer} (te : text ≡ strip host) (xe : x ≡ answer text) where
     stripped : x ≡ answer (strip host)
     stripped = xe ∙ ap answer te
-
-    module _ {f : Bool} {t : AddressText} (fe : f ≡ config.local_dns && chosen.found) (ae : t ≡ asked_text read f chosen.first) (e : x ≡ Accepted) where
-      as_wanted : t ≡ wanted
-      as_wanted = ae ∙ ap (λ (y : Bool). asked_text read y chosen.first) fe
-
-      pub short5 : Short5 config.proxy_auth user password t.kind text
-      short5 =
-          let a = accepted5 text read.kind port (records_of chosen) config user password (sym xe ∙ e) in
-          record { credentials = a.0; name = λ k. a.1 (asked_name read (config.local_dns && chosen.found) chosen.first (ap (λ (y : AddressText). y.kind) (sym as_wanted) ∙ k)) }
-
-      pub returns5 : {r : Prepared} → r ≡ prepared_by Accepted (asking (target5 t text)) → r ≡ returned
-      returns5 b = b ∙ (λ i. prepared_by ((sym e ∙ stripped) i) (asking (target5 (as_wanted i) (te i))))
 
     pub refuses5 : {e : SocksError} {r : Begun} {bytes : List ℕ} → x ≡ Refused e → r ≡ record { answer = Refused e; stage = Failed e; lengths = nothing_kept.lengths } → bytes ≡ replicate 1024 0
         → prepared_with r bytes ≡ returned

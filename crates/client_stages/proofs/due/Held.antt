@@ -10,9 +10,7 @@ use Rattle.protocol.specs.declared.AuthMethod.{AuthMethod}
 use Rattle.protocol.specs.declared.AuthMethod.TheVariants.{NoAuth, UserPass, NoneAcceptable}
 use Rattle.protocol.specs.declared.Reply.{Reply}
 use Rattle.protocol.specs.declared.Reply.TheVariants.{NegotiationRes, AuthenticationRes, ProxyRes, Response}
-use Rattle.protocol.specs.declared.Verdict.TheVariants.{Good, Bad}
-use Rattle.protocol.specs.declared.Decision.{Decision}
-use Rattle.protocol.specs.declared.Decision.TheVariants.{Undecided, Decided}
+use Rattle.protocol.specs.Answers.{Good, Bad, Decision, Undecided, Decided}
 use Rattle.protocol.specs.Bytes.{Bytes, byte, two_of}
 use Rattle.protocol.specs.AddressReading.{ipv4, ipv6, domain}
 use Rattle.protocol.specs.Bound.{Endpoint, endpoint, proxy_bound, response_bound, bytes_in}

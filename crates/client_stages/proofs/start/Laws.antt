@@ -1,5 +1,5 @@
 -- What a start sends is one part of what is kept, from its start, and fits the output that a start asks.
-use Prim.Native.Nat.{ℕ, ◌+◌, ◌≤◌, ◌<◌, zero-le}
+use Prim.Native.Nat.{ℕ, ◌+◌, ◌≤◌, ◌<◌}
 use native.Mathlib.Nat.{add_assoc}
 use native.Mathlib.Omega.{arith}
 use mathlib.Core.Path.{◌≡◌, refl, ap, sym, ◌∙◌}
@@ -7,11 +7,11 @@ use mathlib.Core.Bool.{Bool, true, false, cond}
 use mathlib.Core.List.{List, ◌++◌}
 use lib.Seq.{take-add}
 use lib.Dec.{leb}
-use borrow.Author.Tests.{le-leb, lt-leb, leb-true}
+use Rattle.std.specs.Prelude.{Ok, Err, IfOk}
+use borrow.Author.Tests.{leb-true}
 use Rattle.protocol.specs.declared.Reply.{Reply}
 use Rattle.protocol.specs.declared.Reply.TheVariants.{NegotiationRes, AuthenticationRes, ProxyRes, Response}
 use Rattle.protocol.specs.declared.SocksError.TheVariants.{ShortOutput, OutOfOrder}
-use Rattle.protocol.specs.declared.Answer.TheVariants.{Accepted}
 use Rattle.protocol.specs.Client.{first_room}
 use Rattle.client_stages.specs.declared.due.Lengths.{Lengths}
 use Rattle.client_stages.specs.declared.due.Requests.{Requests}
@@ -19,8 +19,7 @@ use Rattle.client_stages.specs.declared.due.Stage.{Stage}
 use Rattle.client_stages.specs.declared.due.Stage.TheVariants.{Awaiting, Open, Failed}
 use Rattle.client_stages.specs.due.Parts.{part, negotiation_size, authentication_size, proxy_size, first_of5, first_of}
 use Rattle.client_stages.proofs.due.Sending.{part_on}
-use Rattle.client_stages.specs.declared.start.Starting.{Starting}
-use Rattle.client_stages.specs.start.Starting.{first_size5, first_size, refused, start_awaiting, start_at}
+use Rattle.client_stages.specs.start.Starting.{first_size5, first_size, start_at}
 
 three : (b : List ℕ) (i j k : ℕ) → part b 0 i ++ (part b i j ++ part b (i + j) k) ≡ part b 0 (i + j + k)
 three b i j k = ap (λ (l : List ℕ). part b 0 i ++ l) (part_on b i j k) ∙ sym (take-add i (j + k) b) ∙ ap (part b 0) (sym (add_assoc i j k))
@@ -68,43 +67,12 @@ pub first_within : (l : Lengths) (e : Reply) → first_size l e ≤ 1024
 first_within l e = omega (arith, first_fits l e, small e)
 
 -- what a start sends fits the output lent, and stands among the bytes kept
-module _ (g : Bool) (l : Lengths) (room : ℕ) where
-  pub sent_fits : (stage : Stage) → (start_at stage g l room).sent ≤ room
-  sent_fits (Awaiting e) = go g (leb (first_room e) room) refl
-    where
-      go : (h b : Bool) → leb (first_room e) room ≡ b → (cond h (refused OutOfOrder g) (cond b (record { answer = Accepted; started = true; sent = first_size l e }) (refused ShortOutput g))).sent ≤ room
-      go true b q = zero-le
-      go false true q = omega (arith, first_fits l e, leb-true (first_room e) room q)
-      go false false q = zero-le
-  sent_fits Open = zero-le
-  sent_fits (Failed x) = zero-le
-
-  pub sent_within : (stage : Stage) → (start_at stage g l room).sent ≤ 1024
-  sent_within (Awaiting e) = go g (leb (first_room e) room)
-    where
-      go : (h b : Bool) → (cond h (refused OutOfOrder g) (cond b (record { answer = Accepted; started = true; sent = first_size l e }) (refused ShortOutput g))).sent ≤ 1024
-      go true b = zero-le
-      go false true = first_within l e
-      go false false = zero-le
-  sent_within Open = zero-le
-  sent_within (Failed x) = zero-le
-
--- ---- the functions' answers
-
-module _ (l : Lengths) {i : ℕ} where
-  pub all_go : l.optimistic ≡ true → i ≡ negotiation_size l → {j : ℕ} → j ≡ authentication_size l → {k : ℕ} → k ≡ proxy_size l → i + j + k ≡ first_size5 l
-  all_go o x y z = rw (o, x, y, z)
-
-  pub first_goes : l.optimistic ≡ false → i ≡ negotiation_size l → i ≡ first_size5 l
-  first_goes o x = rw (o, x)
-
-module _ (e : Reply) (l : Lengths) (room : ℕ) {g : Bool} where
-  pub awaits_started : g ≡ true → {r : Starting} → r ≡ refused OutOfOrder g → r ≡ start_awaiting e g l room
-  awaits_started t q = q ∙ rw t
-
-  module _ (f : g ≡ false) {least : ℕ} (w : least ≡ first_room e) where
-    pub awaits_short : room < least → {r : Starting} → r ≡ refused ShortOutput g → r ≡ start_awaiting e g l room
-    awaits_short h q = let z : room < first_room e = rw (← w) h in q ∙ rw (f, lt-leb (first_room e) room z)
-
-    pub awaits_starts : least ≤ room → {n : ℕ} → n ≡ first_size l e → record { answer = Accepted; started = true; sent = n } ≡ start_awaiting e g l room
-    awaits_starts h q = let z : first_room e ≤ room = rw (← w) h in rw (f, le-leb (first_room e) room z, q)
+pub sent_fits : (g : Bool) (l : Lengths) (room : ℕ) (stage : Stage) → IfOk (start_at stage g l room) (λ n. (n ≤ room) × (n ≤ 1024))
+sent_fits g l room (Awaiting e) = go g (leb (first_room e) room) refl
+  where
+    go : (h b : Bool) → leb (first_room e) room ≡ b → IfOk (cond h (Err OutOfOrder) (cond b (Ok (first_size l e)) (Err ShortOutput))) (λ n. (n ≤ room) × (n ≤ 1024))
+    go true b q = tt
+    go false true q = (omega (arith, first_fits l e, leb-true (first_room e) room q), first_within l e)
+    go false false q = tt
+sent_fits g l room Open = tt
+sent_fits g l room (Failed x) = tt

@@ -5,8 +5,7 @@ use Rattle.protocol.specs.declared.AuthMethod.TheVariants.{NoAuth, UserPass, Non
 use Rattle.protocol.specs.declared.Reply.{Reply}
 use Rattle.protocol.specs.declared.Reply.TheVariants.{NegotiationRes, AuthenticationRes, ProxyRes, Response}
 use Rattle.protocol.specs.declared.SocksError.TheVariants.{MethodMismatch}
-use Rattle.protocol.specs.declared.Verdict.{Verdict}
-use Rattle.protocol.specs.declared.Verdict.TheVariants.{Good, Bad}
+use Rattle.protocol.specs.Answers.{Verdict, Good, Bad}
 use Rattle.client_stages.specs.declared.due.Lengths.{Lengths}
 use Rattle.client_stages.specs.declared.due.Due.{Due}
 use Rattle.client_stages.specs.declared.due.Stage.{Stage}

@@ -4,12 +4,12 @@ use native.Mathlib.Numerals.{add-one}
 use native.Mathlib.Omega.{arith}
 use mathlib.Core.Path.{◌≡◌, refl, ap, sym, ◌∙◌}
 use mathlib.Core.Bool.{cond}
-use mathlib.Core.Option.{Option, none, some}
+use Rattle.std.specs.Prelude.{Option, None, Some}
 use mathlib.Core.List.{List, [], ◌∷◌, ◌++◌, map, append-nil, append_assoc}
 use lib.ListN.{length, get_or, take}
 use lib.Seq.{take-suc}
 use lib.Dec.{eqb}
-use Rattle.protocol.specs.declared.Port.{Port}
+use Rattle.protocol.specs.Answers.{Port}
 use Rattle.protocol.specs.declared.Version as version
 use Rattle.protocol.specs.declared.Version.TheVariants.{V5, V4}
 use Rattle.protocol.specs.Opening.{Opening}
@@ -40,7 +40,7 @@ module _ (text host : List ℕ) (port : Port) (w : OutcomeStatus) where
   unfolding stream_at row_at asked_of
   later_row [] n = refl
   later_row (p ∷ []) zero = ap (λ (k : Kind). stream_of k w) (kind_here p [])
-  later_row (p ∷ q ∷ ps) zero = ap (λ (k : Kind). cond (eqb w.number 0) none (stream_of k w)) (kind_here p (q ∷ ps))
+  later_row (p ∷ q ∷ ps) zero = ap (λ (k : Kind). cond (eqb w.number 0) None (stream_of k w)) (kind_here p (q ∷ ps))
   later_row (p ∷ ps) (suc n) = let k = kind_here p ps in let r = later_row ps n in λ i. joined (open_stream (k i)) (r i)
 
   pub stream_row : (ps : List Proxy) → 0 < length ps → (n : ℕ) → stream_at (asks ps) n w ≡ row_at ps n w
@@ -52,12 +52,12 @@ module _ (text host : List ℕ) (port : Port) (w : OutcomeStatus) where
 -- ---- by the proxies
 
 joined_none : (x : Option (List ℕ)) → x ≡ joined [] x
-joined_none none = refl
-joined_none (some b) = refl
+joined_none None = refl
+joined_none (Some b) = refl
 
 joined_both : (a b : List ℕ) (x : Option (List ℕ)) → joined a (joined b x) ≡ joined (a ++ b) x
-joined_both a b none = refl
-joined_both a b (some c) = ap some (sym (append_assoc a b c))
+joined_both a b None = refl
+joined_both a b (Some c) = ap Some (sym (append_assoc a b c))
 
 opens_end : (a : List Proxy) (p : Proxy) → opens (a ++ (p ∷ [])) ≡ opens a ++ open_stream (kind_for p)
 unfolding opens
@@ -67,12 +67,12 @@ opens_end (q ∷ a) p = ap (λ (l : List ℕ). open_stream (kind_for q) ++ l) (o
 pub opens_more : (ps : List Proxy) (i : ℕ) (d : Proxy) → i < length ps → opens (take (i + 1) ps) ≡ opens (take i ps) ++ open_stream (kind_for (get_or ps i d))
 opens_more ps i d h = ap (λ (k : ℕ). opens (take k ps)) (add-one i) ∙ ap opens (take-suc ps i d h) ∙ opens_end (take i ps) (get_or ps i d)
 
-pub row_none : (ps : List Proxy) (w : OutcomeStatus) → row_at ps 0 w ≡ none
+pub row_none : (ps : List Proxy) (w : OutcomeStatus) → row_at ps 0 w ≡ None
 unfolding row_at
 row_none [] w = refl
 row_none (p ∷ ps) w = refl
 
-pub row_past : (ps : List Proxy) (n : ℕ) (w : OutcomeStatus) → length ps < n → row_at ps n w ≡ none
+pub row_past : (ps : List Proxy) (n : ℕ) (w : OutcomeStatus) → length ps < n → row_at ps n w ≡ None
 unfolding row_at
 row_past [] n w h = refl
 row_past (p ∷ ps) zero w h = absurd (omega arith)

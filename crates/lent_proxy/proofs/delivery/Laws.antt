@@ -26,7 +26,7 @@ use Rattle.proxy_decisions.proofs.decision.Laws.{feed_undecided}
 use Rattle.proxy_decisions.specs.decision.Due.{asks_at}
 use Rattle.proxy_delivery.specs.declared.piece.Taken.{Taken}
 use Rattle.proxy_delivery.specs.declared.turns.Turn.{Turn}
-use Rattle.proxy_delivery.specs.declared.delivery.Received.{Received}
+use Rattle.std.specs.Prelude.{Result}
 use Rattle.proxy_delivery.specs.turns.Turns.{Worked, last_in}
 use Rattle.proxy_delivery.specs.piece.Pieces.{TakeResult, Keeps, holds_of}
 use Rattle.proxy_delivery.specs.delivery.Received.{Waits, ReceiveResult}
@@ -170,11 +170,11 @@ module _ (s piece out : List ℕ) where
   pub leaves_over : (Waits (server_at s).stage → ⊥) → {r : RawStep} → r ≡ step_by (refusal Settled (server_at s) []) → Leaves (deliver (server_at s) piece out) s r s out
   leaves_over w q =
       let x = server_at s in
-      leaves s piece out (delivers x piece out (receives_settled x.held (setup_of x) x.hold piece x.bound out x.stage w refl)) q refl refl
+      leaves s piece out (delivers x piece out (receives_settled x.held (setup_of x) x.hold piece x.bound out x.stage w)) q refl refl
 
   -- an end that waits for a field
   module _ (y : Bytes s) (long : length s ≡ 1539) {n : ℕ} (q : n ≡ stage_at (byte s 4) (kept_at s)) (z : n ≡ 0 → ⊥) (f : Field) (g : (server_at s).stage ≡ Awaiting f) (h : length out ≡ 1024) where
-    at_field : {r : Received} {hold' out' : List ℕ} → ReceiveResult (Awaiting f) (server_at s).held (setup_of (server_at s)) (server_at s).hold piece (server_at s).bound out r hold' out'
+    at_field : {r : Result Taken SocksError} {hold' out' : List ℕ} → ReceiveResult (Awaiting f) (server_at s).held (setup_of (server_at s)) (server_at s).hold piece (server_at s).bound out r hold' out'
         → ReceiveResult (server_at s).stage (server_at s).held (setup_of (server_at s)) (server_at s).hold piece (server_at s).bound out r hold' out'
     at_field {r} {hold'} {out'} v = subst (λ (t : Stage). ReceiveResult t (server_at s).held (setup_of (server_at s)) (server_at s).hold piece (server_at s).bound out r hold' out') (sym g) v
 

@@ -3,13 +3,16 @@ use Prim.Native.Nat.{ℕ, zero, suc, ◌+◌, ◌-◌, ◌≤◌, ◌<◌, min}
 use native.Mathlib.Numerals.{add-one}
 use native.Mathlib.Omega.{arith}
 use mathlib.Core.Path.{◌≡◌, refl, sym, ap, ◌∙◌}
-use mathlib.Core.Bool.{true}
+use mathlib.Core.Bool.{Bool, true, not, true≢false}
 use mathlib.Core.List.{List, [], ◌∷◌, ◌++◌}
 use lib.ListN.{length, take, drop, length-append}
 use lib.Seq.{take_all, take-take}
 use lib.Dec.{ltb}
 use borrow.Author.Tests.{ne_eqb, lt-leb, ltb-true}
 use Rattle.protocol.specs.declared.SocksError.{SocksError}
+use Rattle.std.specs.Prelude.{Some, None, is_some}
+use Rattle.protocol.specs.Answers as code
+use Rattle.protocol.specs.Client.{told}
 use Rattle.protocol.specs.Bytes.{byte}
 use Rattle.proxy_spec.specs.declared.Field.{Field}
 use Rattle.proxy_spec.specs.declared.Field.TheVariants.{Address, Request, UserId, Name}
@@ -56,6 +59,11 @@ null_one (b ∷ c ∷ bs) l e = absurd (omega arith)
 module _ {f : Field} (n k m : ℕ) (bs : List ℕ) (q : n ≡ k) (w : field_of k m ≡ f) where
   pub lacks_by : reads f bs ≡ undecided → reads (field_of n m) bs ≡ undecided
   lacks_by e = rw (q, w) e
+
+-- a reader that gives none has not decided
+pub untold : (d : code.Decision) {b : Bool} → is_some d ≡ not b → b ≡ true → told d ≡ undecided
+untold None q e = refl
+untold (Some x) q e = absurd (true≢false (q ∙ ap not e))
 
 pub lacks_address : (c t : ℕ) (bs : List ℕ) {k : ℕ} {d : Decision SocksError} → k ≡ t → d ≡ read_address k bs → d ≡ undecided → reads (Address c t) bs ≡ undecided
 unfolding reads

@@ -7,7 +7,7 @@ use mathlib.Core.Bool.{true}
 use mathlib.Core.List.{List, ◌++◌, append_assoc}
 use lib.ListN.{length, take, drop, take-append-drop}
 use lib.Seq.{drop-drop}
-use Rattle.protocol.specs.declared.Answer.TheVariants.{Accepted}
+use Rattle.std.specs.Prelude.{Ok}
 use Rattle.protocol.specs.declared.Reply.{Reply}
 use Rattle.protocol.specs.declared.Reply.TheVariants.{Response}
 use Rattle.protocol.specs.Bytes.{Bytes}
@@ -15,9 +15,9 @@ use Rattle.protocol.proofs.Bytes.{bytes_part}
 use Rattle.buffers.specs.write.Written.{overwrite, Wrote}
 use Rattle.buffers.proofs.write.Laws.{length_overwrite}
 use Rattle.client_stages.specs.declared.due.Lengths.{Lengths}
-use Rattle.client_stages.specs.declared.due.Stage.TheVariants.{Awaiting}
+use Rattle.client_stages.specs.declared.due.Stage.TheVariants.{Awaiting, Open}
 use Rattle.client_stages.specs.due.Parts.{part}
-use Rattle.client_delivery.specs.declared.delivery.Received.{Received}
+use Rattle.client_delivery.specs.declared.piece.Taken.{Taken}
 use Rattle.client_delivery.specs.delivery.Received.{taken, ReceiveResult}
 use Rattle.client_session.specs.declared.Session.{Session}
 use Rattle.lent_numbers.specs.declared.told.RawStep.{RawStep}
@@ -33,7 +33,7 @@ use Rattle.route_delivery.specs.declared.Spot.{Spot}
 use Rattle.route_session.specs.declared.calls.Route.{Route}
 use Rattle.route_delivery.specs.Relay as relay
 use Rattle.route_delivery.specs.Relay.{hop_at, relayed, RelayResult}
-use Rattle.lent_route.proofs.relay.Laws.{hands, stops_here}
+use Rattle.route_delivery.proofs.Laws.{hands, stops_here}
 use Rattle.route_session.specs.calls.Calls.{deliver}
 use Rattle.lent_route.specs.State.{route_at}
 use Rattle.lent_route.specs.Calls.{Leaves}
@@ -90,9 +90,8 @@ module _ (s piece out : List ℕ) (y : Bytes s) (l : length s ≡ 8538) (room : 
         used = length piece;
       }
 
-  abbrev received : Received
-  received =
-      record { answer = Accepted; taken = record { stage = Awaiting e; held = two_at s 8 + length piece; used = length piece; from = 0; sent = 0; bound = r.bound; attempts = 1 } }
+  abbrev held : Taken
+  held = record { stage = Awaiting e; held = two_at s 8 + length piece; used = length piece; from = 0; sent = 0; bound = r.bound; attempts = 1 }
 
   f : Fits (keeping (session_at s) (take 1024 (drop 282 s)))
   f = fits_first s y l
@@ -100,20 +99,21 @@ module _ (s piece out : List ℕ) (y : Bytes s) (l : length s ≡ 8538) (room : 
   abbrev lengths : Lengths
   lengths = (hop_at r.hops at.behind).lengths
 
-  receives : ReceiveResult (Awaiting e) true (two_at s 8) lengths r.hold piece 1024 r.bound received hold'
+  receives : ReceiveResult (Awaiting e) true (two_at s 8) lengths r.hold piece 1024 r.bound (Ok held) hold'
   receives =
       record {
-        way = taken e refl refl (room_small e) t.some refl (takes_undecided lengths e (two_at s 8) r.hold piece r.bound f.hold (t.stays.undecided piece refl) t.stays.room);
-        within = le_refl (length piece);
-        fits = zero-le;
-        inside = zero-le;
+        way = taken e held refl refl (room_small e) t.some refl (takes_undecided lengths e (two_at s 8) r.hold piece r.bound f.hold (t.stays.undecided piece refl) t.stays.room);
+        bounds = record { within = le_refl (length piece); fits = zero-le; inside = zero-le };
       }
 
   stays : RelayResult (relayed r.hops r.bytes at.behind (relay.session_at r.hops r.bytes at r.hold) piece) at piece out here hold' out
   stays =
       let a = asks s piece out y l room w b in
-      let v = hands r.hops at r.bytes r.hold piece out a receives {n = (r.attempts + 1) % 2 ^ 64} {sent = 0} refl (nothing_wrote out (relay.bytes_at r.bytes at.behind)) in
-      (stops_here r.hops at r.bytes r.hold piece out a here v refl).stops refl
+      let v = hands r.hops at r.bytes r.hold piece out a receives refl {n = (r.attempts + 1) % 2 ^ 64} {sent = 0} refl (nothing_wrote out (relay.bytes_at r.bytes at.behind)) in
+      stops_here r.hops at r.bytes r.hold piece out a here v (λ o. waits o.0)
+    where
+      waits : ¬ (Awaiting e ≡ Open)
+      waits q = cc
 
   pub held_leaves : {p' : List ℕ} {k : RawStep} → ((x : Session) → Fits x → x.held ≡ two_at s 8 → take 1306 s ≡ sessions.state_of x → p' ≡ sessions.state_of (appended piece x)) → k ≡ accepted (length piece) 0 (Awaiting Response)
       → Leaves (deliver r piece out) s k (p' ++ drop 1306 s) out

@@ -5,7 +5,7 @@ use mathlib.Core.Path.{◌≡◌, refl, sym, ap, subst, ◌∙◌}
 use mathlib.Core.Bool.{true}
 use mathlib.Core.List.{List, ◌++◌, append-nil}
 use lib.ListN.{length, take, drop, replicate, length-append, length-take, length-drop, length-replicate}
-use Rattle.protocol.specs.declared.Answer.TheVariants.{Accepted}
+use Rattle.protocol.specs.Answers.{Accepted}
 use Rattle.protocol.specs.declared.Reply.{Reply}
 use Rattle.protocol.specs.declared.SocksError.TheVariants.{Settled, OutOfOrder}
 use Rattle.protocol.specs.Numbers.{answer_number}
@@ -28,7 +28,7 @@ use Rattle.route_delivery.specs.declared.Hop.{Hop}
 use Rattle.route_delivery.specs.declared.Spot.{Spot}
 use Rattle.route_delivery.specs.declared.Relayed.{Relayed}
 use Rattle.route_delivery.specs.Relay as relay
-use Rattle.route_delivery.specs.Relay.{Relay, relayed, RelayResult}
+use Rattle.route_delivery.specs.Relay.{Relay, relayed, Relayable, RelayResult}
 use Rattle.route_session.specs.declared.calls.Route.{Route}
 use Rattle.route_session.specs.declared.calls.Delivered.{Delivered}
 use Rattle.route_session.specs.calls.Calls.{Call, refusal, last_in, outcome, deliver, DeliverResult}
@@ -36,7 +36,6 @@ use Rattle.route_session.proofs.calls.Laws.{relay_asks, takes_as, delivers_takes
 use Rattle.talk.specs.Talk as talk
 use Rattle.lent_route.specs.State.{Phase, preparing, opened, over, phase_at, hops_in, count_at, route_at, spoken_at}
 use Rattle.lent_route.specs.Calls.{left_by, Leaves, Untimely, Delivers}
-use Rattle.lent_route.specs.relay.Lending.{Relayable}
 use Rattle.lent_route.specs.delivery.Settling.{spot_in, lengths_by, Settles}
 use Rattle.lent_route.proofs.Writing.{keeping}
 use Rattle.lent_route.proofs.Prefix.{prefix, first_long}
@@ -51,10 +50,6 @@ module _ (s : List ℕ) (y : Bytes s) (l : length s ≡ 8538) where
 
 pub short_behind : {a b x y : ℕ} → a ≡ x → b ≡ y → a < b → x < y
 short_behind p q h = omega (arith, p, q, h)
-
--- what a piece asks of a route whose requests are all there
-of_all : {hops : List Hop} {p : Spot} {bytes hold : List ℕ} {out : ℕ} → relay.Relayable hops p bytes hold out → Relayable hops p bytes hold out
-of_all y = let k = y.few in record { few = y.few; small = y.small; whole = rw y.whole (omega (arith, k)); holds = y.holds; roomy = y.roomy }
 
 -- ---- a route that awaits a reply
 
@@ -83,14 +78,14 @@ module _ (s piece out : List ℕ) (y : Bytes s) (l : length s ≡ 8538) (room : 
   bytes_long : length r.bytes ≡ 8192
   bytes_long = omega (arith, length-append (drop from s) (replicate (1024 * (7 - last)) 0), lent_long, length-replicate {A = ℕ} (1024 * (7 - last)) 0)
 
-  pub asks : Relayable r.hops spot r.bytes r.hold (length out)
+  pub asks : Relayable r.hops spot r.bytes (length out)
   asks =
-      subst (λ (g : Stage). Relayable r.hops (record { behind = spot.behind; stage = g; held = r.held; bound = r.bound; attempts = r.attempts; sent = 0 }) r.bytes r.hold (length out)) w
-      (of_all (relay_asks r piece out refl f.hold bytes_long f.attempts (omega (arith, room))))
+      subst (λ (g : Stage). Relayable r.hops (record { behind = spot.behind; stage = g; held = r.held; bound = r.bound; attempts = r.attempts; sent = 0 }) r.bytes (length out)) w
+      (relay_asks r piece out refl bytes_long f.attempts (omega (arith, room)))
 
   -- what the relay asks, lent the requests of the proxies in use
-  pub lent_asks : {bytes : List ℕ} → bytes ≡ drop from s → Relayable r.hops spot bytes r.hold (length out)
-  lent_asks q = let a = asks in record { few = a.few; small = a.small; whole = rw q (omega (arith, lent_long)); holds = a.holds; roomy = a.roomy }
+  pub lent_asks : {bytes : List ℕ} → bytes ≡ drop from s → Relayable r.hops spot bytes (length out)
+  lent_asks q = let a = asks in record { few = a.few; small = a.small; whole = rw q (omega (arith, lent_long)); roomy = a.roomy }
 
   within : 1024 * (spot.behind + 1) ≤ length (drop from s)
   within = omega (arith, lent_long)
@@ -199,8 +194,8 @@ module _ (s piece out : List ℕ) (y : Bytes s) (l : length s ≡ 8538) (room : 
   lent_is : lent ≡ drop (346 + 1024 * (7 - last_in (count_at s))) s
   lent_is = part_from s (346 + 1024 * (7 - n)) ∙ ap (λ (j : ℕ). drop (346 + 1024 * (7 - j)) s) last_is
 
-  pub decide_asks : Relayable hops p lent hold (length out)
-  decide_asks = subst (λ (t : Type 0). t) (λ i. Relayable (sym hops_are i) (sym spot_is i) (sym lent_is i) (sym k i) (length out)) (lent_asks s piece out y l room w b refl)
+  pub decide_asks : Relayable hops p lent (length out)
+  decide_asks = subst (λ (t : Type 0). t) (λ i. Relayable (sym hops_are i) (sym spot_is i) (sym lent_is i) (length out)) (lent_asks s piece out y l room w b refl)
 
   pub decide_leaves : {q : Relayed} {hold' out' : List ℕ} → RelayResult (relayed hops lent p.behind (relay.session_at hops lent p hold) piece) p piece out q hold' out' → length hold' ≡ 261 → {r : RawStep} {s' : List ℕ} → Settles s q hold' r s'
       → Leaves (deliver (route_at s) piece out) s r s' out'

@@ -7,8 +7,7 @@ use mathlib.Core.List.{List, [], ◌∷◌, ◌++◌, append-nil}
 use lib.ListN.{length, take, drop, set, replicate, length-take, length-drop, length-replicate, take-append-drop}
 use lib.Seq.{take_at, drop_at, drop-drop, length-take-le}
 use borrow.Author.Tests.{le-leb, lt-leb}
-use Rattle.protocol.specs.declared.Answer.{Answer}
-use Rattle.protocol.specs.declared.Answer.TheVariants.{Accepted, Refused}
+use Rattle.protocol.specs.Answers.{Answer, Accepted, Refused, Port}
 use Rattle.protocol.specs.declared.SocksError.{SocksError}
 use Rattle.protocol.specs.declared.SocksError.TheVariants.{RouteLength}
 use Rattle.protocol.specs.Numbers.{number, status, answer_number}
@@ -23,9 +22,6 @@ use Rattle.client_session.specs.Calls.{kept_by, prepared_by, prepare5, prepare4}
 use Rattle.client_opening.specs.declared.common.Begun.{Begun}
 use Rattle.client_opening.specs.common.Begun.{prepared_with}
 use Rattle.raw_numbers.specs.Numbers.{truth, bit, port_of}
-use Rattle.lookup.specs.declared.Lookup.{Lookup}
-use Rattle.lookup.specs.Chosen.{none_found, records_of}
-use Rattle.protocol.specs.declared.Port.{Port}
 use Rattle.lent_session.specs.declared.preparing.RawConfig.{RawConfig}
 use Rattle.lent_numbers.specs.bytes.Numbers.{digits}
 use Rattle.lent_numbers.proofs.bytes.Laws.{length_digits}
@@ -262,10 +258,10 @@ module _ (a : Asked) (begun : Begun) (b : List ℕ) (q : prepared_with begun b �
 
 -- ---- what a hop asks for
 
-pub asks5 : (c : RawConfig) (host : List ℕ) (port : ℕ) (user password : List ℕ) {x y : Bool} {p : Port} {l : Lookup} → x ≡ truth c.proxy_auth → y ≡ truth c.optimistic → p ≡ port_of port → l ≡ none_found → {r : Prepared}
-    → r ≡ prepare5 (record { config = record { proxy_auth = x; local_dns = false; optimistic = y }; host = host; port = p; user = user; password = password; records = records_of l }) → r ≡ prepared_for (asked5 c host port user password)
-asks5 c host port user password x y p l q =
-    q ∙ (λ i. prepare5 (record { config = record { proxy_auth = x i; local_dns = false; optimistic = y i }; host = host; port = p i; user = user; password = password; records = records_of (l i) }))
+pub asks5 : (c : RawConfig) (host : List ℕ) (port : ℕ) (user password : List ℕ) {x y : Bool} {p : Port} → x ≡ truth c.proxy_auth → y ≡ truth c.optimistic → p ≡ port_of port → {r : Prepared}
+    → r ≡ prepare5 (record { config = record { proxy_auth = x; local_dns = false; optimistic = y }; host = host; port = p; user = user; password = password; records = [] }) → r ≡ prepared_for (asked5 c host port user password)
+asks5 c host port user password x y p q =
+    q ∙ (λ i. prepare5 (record { config = record { proxy_auth = x i; local_dns = false; optimistic = y i }; host = host; port = p i; user = user; password = password; records = [] }))
 
-pub asks4 : (host : List ℕ) (port : ℕ) {p : Port} {l : Lookup} → p ≡ port_of port → l ≡ none_found → {r : Prepared} → r ≡ prepare4 (record { local_dns = false; host = host; port = p; records = records_of l }) → r ≡ prepared_for (asked4 host port)
-asks4 host port p l q = q ∙ (λ i. prepare4 (record { local_dns = false; host = host; port = p i; records = records_of (l i) }))
+pub asks4 : (host : List ℕ) (port : ℕ) {p : Port} → p ≡ port_of port → {r : Prepared} → r ≡ prepare4 (record { local_dns = false; host = host; port = p; records = [] }) → r ≡ prepared_for (asked4 host port)
+asks4 host port p q = q ∙ (λ i. prepare4 (record { local_dns = false; host = host; port = p i; records = [] }))

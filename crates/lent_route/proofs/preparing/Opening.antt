@@ -27,8 +27,7 @@ use Rattle.lent_session.specs.Fits.{Fits}
 use Rattle.lent_session.specs.Calls as session-steps
 use Rattle.route_delivery.specs.declared.Hop.{Hop}
 use Rattle.route_delivery.specs.declared.Spot.{Spot}
-use Rattle.route_delivery.specs.Relay.{no_hop, hop_at, goes_at, begun_spot}
-use Rattle.route_session.specs.opening.First.{fresh_spot}
+use Rattle.route_delivery.specs.Relay.{no_hop, hop_at, goes_at, fresh_spot, begun_spot}
 use Rattle.route_session.specs.calls.Calls.{Call, refusal, last_in, empty_route, begun_with, begins}
 use Rattle.route_session.proofs.calls.Laws.{written}
 use Rattle.lent_route.specs.State.{Phase, preparing, opened, over, phase_at, hops_in, bytes_in, count_at, route_at, slots_of, kept_of, counts_of, spoken_at, state_of}

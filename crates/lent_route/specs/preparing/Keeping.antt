@@ -1,7 +1,6 @@
 -- F-5: a hop by its parts, as the code has it: whether it is in turn, and what is kept.
 use Rattle.std.specs.Prelude.{ℕ, ◌+◌, ◌-◌, ◌*◌, ◌<◌, ◌≡◌, List, replicate}
-use Rattle.protocol.specs.declared.Answer.{Answer}
-use Rattle.protocol.specs.declared.Answer.TheVariants.{Accepted, Refused}
+use Rattle.protocol.specs.Answers.{Answer, Accepted, Refused}
 use Rattle.protocol.specs.declared.SocksError.TheVariants.{Settled, OutOfOrder}
 use Rattle.buffers.specs.write.Written.{overwrite}
 use Rattle.lent_numbers.specs.bytes.Numbers.{digits}

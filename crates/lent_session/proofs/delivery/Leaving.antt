@@ -1,6 +1,6 @@
 -- What a start, a delivery and an end leave in lent bytes, by what the code finds and writes.
-use Rattle.std.proofs.Common.{◌≡◌, ℕ, ◌+◌, ◌-◌, ◌^◌, ◌<◌, ◌≤◌, Bool, true, false, cond, not, leb, List, [], ◌∷◌, ◌++◌, length, take, drop, set, sym, refl, ap, ◌∙◌, subst, true≢false, zero-le, le_refl, zero-add, arith, length-append, length-drop, length-take, drop-drop, drop_at, le-leb}
-use Rattle.protocol.specs.declared.Answer.TheVariants.{Accepted}
+use Rattle.std.proofs.Common.{Result, Ok, Err, ◌≡◌, ℕ, ◌+◌, ◌-◌, ◌^◌, ◌<◌, ◌≤◌, Bool, true, false, cond, not, leb, List, [], ◌∷◌, ◌++◌, length, take, drop, set, sym, refl, ap, ◌∙◌, subst, true≢false, zero-le, le_refl, zero-add, arith, length-append, length-drop, length-take, drop-drop, drop_at, le-leb}
+use Rattle.protocol.specs.Answers.{Accepted}
 use Rattle.protocol.specs.declared.Bound.{Bound}
 use Rattle.protocol.specs.declared.Reply.{Reply}
 use Rattle.protocol.specs.declared.Reply.TheVariants.{NegotiationRes, AuthenticationRes, ProxyRes, Response}
@@ -23,11 +23,10 @@ use Rattle.client_stages.specs.due.Parts.{part}
 use Rattle.client_stages.specs.due.Stages.{SideSession, view_at, stage_of, holds_of, bound_after, rank}
 use Rattle.client_stages.proofs.due.Stages.{awaits}
 use Rattle.client_stages.specs.start.Starting.{first_size}
-use Rattle.client_stages.proofs.start.Laws.{first_part, sent_within}
+use Rattle.client_stages.proofs.start.Laws.{first_part, first_within}
 use Rattle.client_delivery.specs.declared.piece.Taken.{Taken}
-use Rattle.client_delivery.specs.declared.delivery.Received.{Received}
-use Rattle.client_delivery.specs.delivery.Received.{Ways, settled, unstarted, short, none, taken, ReceiveResult}
-use Rattle.client_delivery.proofs.delivery.Laws.{nothing_sent}
+use Rattle.client_delivery.specs.delivery.Received.{Received, Ways, settled, unstarted, short, none, taken, ReceiveResult}
+use Rattle.client_delivery.proofs.delivery.Laws.{nothing_sent, took}
 use Rattle.client_session.specs.declared.Session.{Session}
 use Rattle.client_session.specs.declared.Delivered.{Delivered}
 use Rattle.client_session.specs.Session.{view, outcome, room_at, first_room_at, first_at}
@@ -139,29 +138,31 @@ not_open (talk.waiting e h) b n = refl
 not_open (talk.ended (talk.done x)) b n = absurd (n refl)
 not_open (talk.ended (talk.failed x)) b n = refl
 
-module _ {stage : Stage} {g : Bool} {held : ℕ} {l : Lengths} {hold piece : List ℕ} {lent : ℕ} {bound : Bound} {r : Received} {hold' : List ℕ} where
-  answers : {e : Reply} → Ways stage g held l hold piece lent bound r hold' → stage ≡ Awaiting e → g ≡ true → lent ≡ 1024 → r.answer ≡ Accepted
-  answers {e} (settled z q w) s b n = absurd (awaits e (ap rank (sym s) ∙ z))
-  answers (unstarted e t f q w) s b n = absurd (true≢false (sym b ∙ f))
-  answers (short e t f h q w) s b n = absurd (omega (arith, room_small e))
-  answers (none e t f h z q w) s b n = ap (λ (x : Received). x.answer) q
-  answers (taken e t f h z q w) s b n = q
+module _ {stage : Stage} {held : ℕ} {l : Lengths} {hold piece : List ℕ} {bound : Bound} {hold' : List ℕ} where
+  never_refused : {e : Reply} {y : SocksError} → Ways stage true held l hold piece 1024 bound (Err y) hold' → stage ≡ Awaiting e → ⊥
+  never_refused {e} (settled z q w) s = awaits e (ap rank (sym s) ∙ z)
+  never_refused (unstarted e t f q w) s = true≢false f
+  never_refused (short e t f h q w) s = omega (arith, room_small e)
+  never_refused (none e t f h z q w) s = let k : ◌≡◌ {A = ℕ} 0 1 = cc in omega arith
+  never_refused (taken e t u f h z q w) s = let k : ◌≡◌ {A = ℕ} 0 1 = cc in omega arith
 
-  holds_few : Ways stage g held l hold piece lent bound r hold' → held < 65536 → length hold' ≡ 261 → r.taken.held < 65536
-  holds_few (settled z q w) h n = rw (ap (λ (x : Received). x.taken.held) q) h
-  holds_few (unstarted e t f q w) h n = rw (ap (λ (x : Received). x.taken.held) q) h
-  holds_few (short e t f m q w) h n = rw (ap (λ (x : Received). x.taken.held) q) h
-  holds_few (none e t f m z q w) h n = rw (ap (λ (x : Received). x.taken.held) q) h
-  holds_few (taken e t f m z q w) h n =
+-- a session that awaits, is started and lends enough is not refused
+pub received_some : {g : Reply} {held : ℕ} {l : Lengths} {hold piece : List ℕ} {bound : Bound} {r : Received} {hold' : List ℕ} {y : SocksError} → ReceiveResult (Awaiting g) true held l hold piece 1024 bound r hold' → r ≡ Err y → ⊥
+received_some v q = let w = v.way in never_refused (rw q at w) refl
+
+module _ {stage : Stage} {g : Bool} {held : ℕ} {l : Lengths} {hold piece : List ℕ} {lent : ℕ} {bound : Bound} {t : Taken} {hold' : List ℕ} where
+  holds_few : Ways stage g held l hold piece lent bound (Ok t) hold' → held < 65536 → length hold' ≡ 261 → t.held < 65536
+  holds_few v h n =
+      took (λ (u : Taken) (k : List ℕ). length k ≡ 261 → u.held < 65536) (λ n. h)
+      (λ e u k s w n.
       let m = holds_of w.session in
-      omega (arith, w.keeps.counts, ap length w.keeps.holds, length-append m (drop (length m) hold))
+      omega (arith, w.keeps.counts, ap length w.keeps.holds, length-append m (drop (length m) hold)))
+      v n
 
-  bound_stays : Ways stage g held l hold piece lent bound r hold' → (r.taken.stage ≡ Open → ⊥) → r.taken.bound ≡ bound
-  bound_stays (settled z q w) n = ap (λ (x : Received). x.taken.bound) q
-  bound_stays (unstarted e t f q w) n = ap (λ (x : Received). x.taken.bound) q
-  bound_stays (short e t f m q w) n = ap (λ (x : Received). x.taken.bound) q
-  bound_stays (none e t f m z q w) n = ap (λ (x : Received). x.taken.bound) q
-  bound_stays (taken e t f m z q w) n = w.keeps.bounds ∙ not_open w.session bound (λ o. n (w.keeps.staged ∙ o))
+  bound_stays : Ways stage g held l hold piece lent bound (Ok t) hold' → (t.stage ≡ Open → ⊥) → t.bound ≡ bound
+  bound_stays v =
+      took (λ (u : Taken) (k : List ℕ). (u.stage ≡ Open → ⊥) → u.bound ≡ bound) (λ n. refl)
+      (λ e u k s w n. w.keeps.bounds ∙ not_open w.session bound (λ o. n (w.keeps.staged ∙ o))) v
 
 module _ (s piece out : List ℕ) (y : Bytes s) (long : length s ≡ 1306) (lent : length out ≡ 1024) {e : Reply} (w : (session_at s).stage ≡ Awaiting e) (b : (session_at s).started ≡ true) where
   abbrev x : Session
@@ -176,14 +177,13 @@ module _ (s piece out : List ℕ) (y : Bytes s) (long : length s ≡ 1306) (lent
       (accepts x refl refl f (sym (state_written s y long e w)) (q ∙ (λ i. accepted 0 0 (sym w i))) refl)
 
   -- the state is the writing of what the piece came to
-  leaves_by : {r : Received} {hold' s' out' : List ℕ} {k : RawStep} → ReceiveResult x.stage x.started x.held x.requests.lengths x.hold piece (length out) x.bound r hold' → length hold' ≡ 261
-      → r.taken.bound.port < 65536 → s' ≡ state_of (changes.settled r.taken (holding hold' x)) → k ≡ accepted r.taken.used r.taken.sent r.taken.stage
-      → out' ≡ overwrite out 0 (part x.requests.bytes r.taken.from r.taken.sent) → Leaves (deliver x piece out) s k s' out'
-  leaves_by {r} {hold'} v h port sw kw ow =
-      let t = r.taken in
-      let d = delivers x piece out v f.attempts refl f.bytes ow in
+  leaves_by : {t : Taken} {hold' s' out' : List ℕ} {k : RawStep} → ReceiveResult x.stage x.started x.held x.requests.lengths x.hold piece (length out) x.bound (Ok t) hold' → length hold' ≡ 261
+      → t.bound.port < 65536 → s' ≡ state_of (changes.settled t (holding hold' x)) → k ≡ accepted t.used t.sent t.stage
+      → out' ≡ overwrite out 0 (part x.requests.bytes t.from t.sent) → Leaves (deliver x piece out) s k s' out'
+  leaves_by {t} {hold'} v h port sw kw ow =
+      let d = delivers x piece out v f.attempts refl refl f.bytes ow in
       let p = d.returned in
-      accepts (changes.settled t (holding hold' x)) (sym (ap (λ (z : Delivered). z.answer) p) ∙ answers v.way w b lent) (sym (ap (λ (z : Delivered). z.session) p))
+      accepts (changes.settled t (holding hold' x)) (sym (ap (λ (z : Delivered). z.answer) p)) (sym (ap (λ (z : Delivered). z.session) p))
       (refit f (omega arith) (holds_few v.way f.held h) port h) sw
       (kw ∙ (λ i. accepted (p i).used (p i).sent t.stage)) d.output
 
@@ -194,8 +194,8 @@ module _ (s piece out : List ℕ) (y : Bytes s) (long : length s ≡ 1306) (lent
       let t : Taken = record { stage = Awaiting e; held = x.held + length piece; used = length piece; from = 0; sent = 0; bound = x.bound; attempts = 1 } in
       let room : x.held + length piece ≤ 261 = omega (arith, st.room) in
       let u = takes_undecided x.requests.lengths e x.held x.hold piece x.bound f.hold (ap (λ (n : ℕ). decide e (take n x.hold ++ piece)) (sym q) ∙ st.undecided piece refl) room in
-      leaves_by {r = record { answer = Accepted; taken = t }} {hold' = overwrite x.hold x.held piece}
-      (record { way = taken e w b (omega (arith, room_small e)) some refl u; within = le_refl (length piece); fits = zero-le; inside = zero-le })
+      leaves_by {t = t} {hold' = overwrite x.hold x.held piece}
+      (record { way = taken e t w b (omega (arith, room_small e)) some refl u; bounds = record { within = le_refl (length piece); fits = zero-le; inside = zero-le } })
       (length_overwrite x.hold x.held piece (omega (arith, f.hold)) ∙ f.hold) f.port
       (sw ∙ (λ i. state_of (at (w i) (x.held + length piece) x.bound (holding (overwrite x.hold x.held piece) (trying 1 x)))))
       kw (nothing_sent x.requests.bytes 0 out refl)
@@ -216,25 +216,19 @@ module _ (s piece out : List ℕ) (y : Bytes s) (long : length s ≡ 1306) (lent
     unfolding digits
     requests_kept = ap (drop 282) lent_as ∙ drop_at hold' x.requests.bytes 261 h
 
-    pub received_leaves : (r : Received) {s' out' : List ℕ} {k : RawStep} {g : Reply} {n held : ℕ} {l : Lengths} {bound : Bound} → n ≡ reply_number e → ((e' : Reply) → n ≡ reply_number e' → g ≡ e') → held ≡ x.held → l ≡ x.requests.lengths → bound ≡ x.bound
-        → ReceiveResult (Awaiting g) true held l x.hold piece 1024 bound r hold' → r.taken.bound.port < 65536
-        → out' ≡ overwrite out 0 (part (drop 282 put) r.taken.from r.taken.sent) → k ≡ accepted r.taken.used r.taken.sent r.taken.stage
-        → ((z : Session) (e' : Reply) → Fits z → z.stage ≡ Awaiting e' → ((r.taken.stage ≡ Open → ⊥) → r.taken.bound ≡ z.bound) → put ≡ state_of z → s' ≡ state_of (changes.settled r.taken z))
+    pub received_leaves : {r : Received} (t : Taken) → r ≡ Ok t → {s' out' : List ℕ} {k : RawStep} {g : Reply} {n held : ℕ} {l : Lengths} {bound : Bound} → n ≡ reply_number e → ((e' : Reply) → n ≡ reply_number e' → g ≡ e') → held ≡ x.held → l ≡ x.requests.lengths → bound ≡ x.bound
+        → ReceiveResult (Awaiting g) true held l x.hold piece 1024 bound r hold' → t.bound.port < 65536
+        → out' ≡ overwrite out 0 (part (drop 282 put) t.from t.sent) → k ≡ accepted t.used t.sent t.stage
+        → ((z : Session) (e' : Reply) → Fits z → z.stage ≡ Awaiting e' → ((t.stage ≡ Open → ⊥) → t.bound ≡ z.bound) → put ≡ state_of z → s' ≡ state_of (changes.settled t z))
         → Leaves (deliver x piece out) s k s' out'
-    received_leaves r {g = g} n reply p q u v port ow kw sw =
+    received_leaves t o {g = g} n reply p q u v port ow kw sw =
         let m : Awaiting g ≡ x.stage = ap Awaiting (reply e n) ∙ sym w in
-        let v' = subst (λ (t : Type 0). t) (λ i. ReceiveResult (m i) (sym b i) (p i) (q i) x.hold piece (sym lent i) (u i) r hold') v in
+        let v' = subst (λ (t : Type 0). t) (λ i. ReceiveResult (m i) (sym b i) (p i) (q i) x.hold piece (sym lent i) (u i) (o i) hold') v in
         leaves_by v' h port
         (sw (holding hold' x) e (refit f f.attempts f.held f.port h) w (bound_stays v'.way) lent_as)
-        kw (ow ∙ ap (λ (t : List ℕ). overwrite out 0 (part t r.taken.from r.taken.sent)) requests_kept)
+        kw (ow ∙ ap (λ (l : List ℕ). overwrite out 0 (part l t.from t.sent)) requests_kept)
 
 -- ---- a start
-
-pub first_small : (l : Lengths) (e : Reply) → first_size l e ≤ 1024
-first_small l (NegotiationRes m) = sent_within false l 1024 (Awaiting (NegotiationRes m))
-first_small l AuthenticationRes = sent_within false l 1024 (Awaiting AuthenticationRes)
-first_small l ProxyRes = sent_within false l 1024 (Awaiting ProxyRes)
-first_small l Response = sent_within false l 1024 (Awaiting Response)
 
 first_room_lem : (e : Reply) → client.first_room e ≤ 1024
 first_room_lem (NegotiationRes m) = omega arith
@@ -272,7 +266,7 @@ module _ (s out : List ℕ) (y : Bytes s) (long : length s ≡ 1306) (lent : len
         start_sends x out w b lent ∙ ap (λ (bs : List ℕ). starts x bs out) p
 
     first_long : m ≡ length (first m)
-    first_long = sym (length-take m (drop 282 s) ∙ omega (arith, mw, first_small l g, length-drop 282 s))
+    first_long = sym (length-take m (drop 282 s) ∙ omega (arith, mw, first_within l g, length-drop 282 s))
 
     pub start_leaves : {k : RawStep} {out' : List ℕ} → out' ≡ overwrite out 0 (first m) → k ≡ accepted 0 m (Awaiting Response) → Leaves (start (session_at s) out) s k (set s 18 (byte s 18 + 8)) out'
     unfolding overwrite

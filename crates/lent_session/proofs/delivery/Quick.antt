@@ -5,7 +5,7 @@ use borrow.Author.Tests.{lt-leb}
 use Rattle.protocol.specs.declared.AuthMethod.TheVariants.{NoAuth, UserPass, NoneAcceptable}
 use Rattle.protocol.specs.declared.Reply.{Reply}
 use Rattle.protocol.specs.declared.Reply.TheVariants.{NegotiationRes, AuthenticationRes, ProxyRes, Response}
-use Rattle.protocol.specs.declared.Decision.TheVariants.{Undecided}
+use Rattle.protocol.specs.Answers.{Undecided}
 use Rattle.protocol.specs.declared.Bound.{Bound}
 use Rattle.protocol.specs.Bytes.{byte}
 use Rattle.protocol.specs.Bound.{unbound}

@@ -1,11 +1,11 @@
 -- What preparing leaves in lent bytes that were cleared, by what the code finds and writes.
+use Rattle.protocol.specs.declared.Record.{Record}
+use Rattle.std.specs.Prelude.{Option}
 use Rattle.std.proofs.Common.{◌≡◌, ℕ, ◌+◌, ◌-◌, ◌*◌, ◌≤◌, Bool, true, false, List, [], ◌++◌, length, take, drop, set, replicate, sym, refl, ap, ◌∙◌, subst, append-nil, arith, length-append, length-drop, drop_of_length-le, take_all, take_at, drop_at}
 use lib.ListN.{length-replicate, replicate-append-replicate}
 use Rattle.protocol.specs.declared.AddressKind.TheVariants.{Ipv4}
-use Rattle.protocol.specs.declared.Answer.{Answer}
-use Rattle.protocol.specs.declared.Answer.TheVariants.{Accepted, Refused}
+use Rattle.protocol.specs.Answers.{Answer, Accepted, Refused, Port}
 use Rattle.protocol.specs.declared.AuthMethod.TheVariants.{NoAuth, UserPass}
-use Rattle.protocol.specs.declared.Port.{Port}
 use Rattle.protocol.specs.declared.Reply.{Reply}
 use Rattle.protocol.specs.declared.SocksConfig.{SocksConfig}
 use Rattle.protocol.specs.declared.SocksError.{SocksError}
@@ -15,8 +15,7 @@ use Rattle.protocol.specs.Numbers.{answer_number}
 use Rattle.protocol.specs.Opening.{first_record, first_four, check5, check4, Opening, v5, v4, no_auth, user_pass, opening5, opening4}
 use Rattle.protocol.specs.Requests.{negotiation_req, authentication_req, proxy_req, request}
 use Rattle.buffers.specs.write.Written.{overwrite}
-use Rattle.lookup.specs.declared.Lookup.{Lookup}
-use Rattle.lookup.specs.Chosen.{none_found, chosen_of, records_of}
+use Rattle.lookup.specs.Chosen.{chosen_of, records_of}
 use Rattle.lookup.proofs.Firsts.{first_chosen, four_chosen}
 use Rattle.client_stages.specs.declared.due.Requests.{Requests}
 use Rattle.client_stages.specs.declared.due.Stage.{Stage}
@@ -136,24 +135,24 @@ prepares a o {p} pw b bytes long q u v =
 
 -- of the list of records the first that serves is all that is asked
 
-module _ (b : Begun) (bytes : List ℕ) (long : length bytes ≡ 1024) (host : List ℕ) (port : ℕ) (records : List ℕ) {l : Lookup} {pt : Port} {r : ℕ} {s' : List ℕ} where
-  pub prepares5 : (c : RawConfig) (user password : List ℕ) {cf : SocksConfig} → l ≡ chosen_of false none_found (records_in records) → cf ≡ config_of c → pt ≡ port_of port
+module _ (b : Begun) (bytes : List ℕ) (long : length bytes ≡ 1024) (host : List ℕ) (port : ℕ) (records : List ℕ) {l : Option Record} {pt : Port} {r : ℕ} {s' : List ℕ} where
+  pub prepares5 : (c : RawConfig) (user password : List ℕ) {cf : SocksConfig} → l ≡ chosen_of false (records_in records) → cf ≡ config_of c → pt ≡ port_of port
       → prepared_with b bytes ≡ prepare5 (record { config = cf; host = host; port = pt; user = user; password = password; records = records_of l })
       → r ≡ answer_number b.answer → s' ≡ state_of (prepared_with b bytes).session → Prepares (prepare5 (given5 c host port user password records)) r s'
   unfolding prepare5
   prepares5 c user password {cf} el ec ep e u v =
-      let first : first_record (records_of l) ≡ first_record (records_in records) = ap (λ (k : Lookup). first_record (records_of k)) el ∙ first_chosen (records_in records) in
+      let first : first_record (records_of l) ≡ first_record (records_in records) = ap (λ (k : Option Record). first_record (records_of k)) el ∙ first_chosen (records_in records) in
       let h = e ∙ by_first5 cf host pt user password (records_in records) (records_of l) (λ _. first) in
       let g = h ∙ (λ i. prepare5 (record { config = ec i; host = host; port = ep i; user = user; password = password; records = records_in records })) in
       let a = given5 c host port user password records in
       prepares (check5 a) (opening5 a) refl b bytes long g u v
 
-  pub prepares4 : (local_dns : ℕ) {t : Bool} → l ≡ chosen_of true none_found (records_in records) → t ≡ truth local_dns → pt ≡ port_of port
+  pub prepares4 : (local_dns : ℕ) {t : Bool} → l ≡ chosen_of true (records_in records) → t ≡ truth local_dns → pt ≡ port_of port
       → prepared_with b bytes ≡ prepare4 (record { local_dns = t; host = host; port = pt; records = records_of l })
       → r ≡ answer_number b.answer → s' ≡ state_of (prepared_with b bytes).session → Prepares (prepare4 (given4 local_dns host port records)) r s'
   unfolding prepare4
   prepares4 local_dns {t} el et ep e u v =
-      let first : first_four (records_of l) ≡ first_four (records_in records) = ap (λ (k : Lookup). first_four (records_of k)) el ∙ four_chosen (records_in records) in
+      let first : first_four (records_of l) ≡ first_four (records_in records) = ap (λ (k : Option Record). first_four (records_of k)) el ∙ four_chosen (records_in records) in
       let h = e ∙ by_first4 t host pt (records_in records) (records_of l) (λ _. first) in
       let g = h ∙ (λ i. prepare4 (record { local_dns = et i; host = host; port = ep i; records = records_in records })) in
       let a = given4 local_dns host port records in

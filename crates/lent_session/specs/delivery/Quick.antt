@@ -1,7 +1,7 @@
 -- A piece that decides nothing, by the reply that is awaited and what is held.
 use Rattle.std.specs.Prelude.{◌≡◌, ℕ, ◌+◌, ◌<◌, ◌≤◌, List, ◌++◌, length, take}
 use Rattle.protocol.specs.declared.Reply.{Reply}
-use Rattle.protocol.specs.declared.Decision.TheVariants.{Undecided}
+use Rattle.protocol.specs.Answers.{Undecided}
 use Rattle.protocol.specs.Replies.{decide}
 
 -- with fewer bytes in all than so many, the first of them held, a reply is not decided

@@ -150,18 +150,11 @@ module _ (m : List ℕ) {type : ℕ} {r : Found} {port : ℕ} (h : address_size 
       let w : 3 + byte m 0 ≤ length m = rw (ne_eqb type 0x01 s, ne_eqb type 0x04 t) at h in
       rw (q, p) (record { names = rw (ne_eqb type 0x01 s, ne_eqb type 0x04 t, ← e); inside = omega arith; small = omega arith })
 
-pub finds_name : (h p : List ℕ) {r : Found} {port : ℕ} → (1 ≤ length (h ++ p)) × (length (h ++ p) ≤ 1015) → r ≡ standing Domain 0 (length h + length p - 1) port
-    → Finds 1014 (endpoint (domain (take (length (h ++ p) - 1) (h ++ p))) port) (h ++ p) r
-finds_name h p s q = let e = length-append h p in rw q (record { names = rw e; inside = omega arith; small = omega arith })
+pub finds_name : (m : List ℕ) {r : Found} {port n : ℕ} → (1 ≤ length m) × (length m ≤ 1015) → n ≡ length m → r ≡ standing Domain 0 (n - 1) port
+    → Finds 1014 (endpoint (domain (take (length m - 1) m)) port) m r
+finds_name m s e q = rw (q, e) (record { names = refl; inside = omega arith; small = omega arith })
 
--- ---- a message cut out of a hold and a piece
-
-pub cut : (hold p : List ℕ) (n from to a b : ℕ) → n ≤ length hold → from ≤ to → a ≡ min from n → b ≡ min to n
-    → take (b - a) (drop a hold) ++ take (to - b - (from - a)) (drop (from - a) p) ≡ take (to - from) (drop from (take n hold ++ p))
-cut hold p n from to a b l h e f =
-    let k : length (take n hold) ≡ n = length-take-le n hold l in
-    let s : take (b - a) (drop a (take n hold)) ≡ take (b - a) (drop a hold) = ap (take (b - a)) (drop_first n hold l a (omega arith)) ∙ take-take (b - a) (n - a) (drop a hold) (omega arith) in
-    ap (λ (x : List ℕ). x ++ take (to - b - (from - a)) (drop (from - a) p)) (sym s) ∙ part_two (take n hold) p from to a b h (rw k e) (rw k f)
+-- ---- a message in a hold and a piece
 
 -- what was found in the first bytes was found in all
 finds_more : {most : ℕ} {x : Endpoint} (k : ℕ) (bs : List ℕ) {r : Found} → k ≤ length bs → Finds most x (take k bs) r → Finds most x bs r
@@ -171,12 +164,10 @@ finds_more k bs {r} l f =
     let s : take r.len (drop r.at (take k bs)) ≡ take r.len (drop r.at bs) = ap (take r.len) (drop_first k bs l r.at (omega arith)) ∙ take-take r.len (k - r.at) (drop r.at bs) (omega arith) in
     record { names = f.names ∙ ap (λ (t : List ℕ). endpoint (kind_of r.bound.kind t) r.bound.port) s; inside = omega arith; small = f.small }
 
-pub found_in : (f : Field) (hold p : List ℕ) (n from to a b : ℕ) {r : Found} → n ≤ length hold → from ≤ to → to ≤ n + length p → a ≡ min from n → b ≡ min to n
-    → (let m = take (b - a) (drop a hold) ++ take (to - b - (from - a)) (drop (from - a) p) in Finds 1014 (asks_at f m) m r)
-    → Finds 1014 (asks_at f (take (to - from) (drop from (take n hold ++ p)))) (drop from (take n hold ++ p)) r
-found_in f hold p n from to a b {r} l h i e g w =
-    let z = subst (λ (m : List ℕ). Finds 1014 (asks_at f m) m r) (cut hold p n from to a b l h e g) w in
-    finds_more (to - from) (drop from (take n hold ++ p)) (omega (arith, length-drop from (take n hold ++ p), length-append (take n hold) p, length-take-le n hold l)) z
+pub found_in : (f : Field) (hold p : List ℕ) (n from to : ℕ) {r : Found} → n ≤ length hold → from ≤ to → to ≤ n + length p
+    → (let m = take (to - from) (drop from (take n hold ++ p)) in Finds 1014 (asks_at f m) m r → Finds 1014 (asks_at f m) (drop from (take n hold ++ p)) r)
+found_in f hold p n from to {r} l h i w =
+    finds_more (to - from) (drop from (take n hold ++ p)) (omega (arith, length-drop from (take n hold ++ p), length-append (take n hold) p, length-take-le n hold l)) w
 
 -- ---- what is kept, and handed out
 

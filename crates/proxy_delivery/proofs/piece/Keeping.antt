@@ -4,6 +4,7 @@ use native.Mathlib.Nat.{zero-add, le_refl}
 use native.Mathlib.Omega.{arith}
 use mathlib.Core.Path.{◌≡◌, refl, ap, sym, ◌∙◌}
 use mathlib.Core.List.{List, ◌++◌}
+use mathlib.Core.Logic.{◌⊎◌, inl, inr}
 use lib.ListN.{length, take, drop, length-append, length-drop, length-take}
 use Rattle.protocol.specs.declared.SocksError.{SocksError}
 use Rattle.protocol.specs.declared.Version.{Version}
@@ -52,31 +53,26 @@ module _ (place : ℕ) (h p hold : List ℕ) {n sent : ℕ} {bound : Bound} (lon
   pub keeps_asks : {v : Version} → stage ≡ Asked v → Asks x stage (place - n) sent hold r hold' → Came stage x place h p hold bound sent r hold'
   keeps_asks s w = rw (w.is, s) (record { staged = refl; bounds = refl; counts = refl; holds = w.holds; uses = omega arith; within = omega arith }, refl)
 
-  pub keeps_failed : {e : SocksError} → stage ≡ Failed e → r ≡ record { stage = stage; held = 0; used = place - n; sent = sent; bound = bound } → hold' ≡ hold → Came stage x place h p hold bound sent r hold'
+  keeps_failed : {e : SocksError} → stage ≡ Failed e → r ≡ record { stage = stage; held = 0; used = place - n; sent = sent; bound = bound } → hold' ≡ hold → Came stage x place h p hold bound sent r hold'
   keeps_failed s q w = rw (q, s) (record { staged = refl; bounds = refl; counts = refl; holds = w; uses = omega arith; within = omega arith }, refl)
+
+  -- none is open by itself
+  pub keeps_over : ((v : Version) × (stage ≡ Open v)) ⊎ ((e : SocksError) × (stage ≡ Failed e)) → (last : Field) (m : List ℕ) → Ready stage last m
+      → r ≡ record { stage = stage; held = 0; used = place - n; sent = sent; bound = bound } → hold' ≡ hold → Came stage x place h p hold bound sent r hold'
+  keeps_over (inl (v, s)) last m y q w = let o : ⊥ = rw s at y in absurd o
+  keeps_over (inr (e, s)) last m y q w = keeps_failed s q w
 
 -- what is unread of a stage that waits fits the hold
 pub rests_few : {stage : Stage} {f : Field} (rest : List ℕ) → stage ≡ Awaiting f → Rests stage rest → length rest ≤ 1014
 rests_few rest q r = rw q at r
 
--- one that asks has read a last field, and none is open by itself
+-- one that asks has read a last field
 pub ready_asked : {stage : Stage} {v : Version} (last : Field) (m : List ℕ) → stage ≡ Asked v → Ready stage last m → Last last m
 ready_asked last m q r = rw q at r
 
-pub ready_open : {stage : Stage} {v : Version} (last : Field) (m : List ℕ) → stage ≡ Open v → Ready stage last m → ⊥
-ready_open last m q r = rw q at r
-
--- behind n held bytes a piece was used as far as fields were decided
-used_behind : (place n : ℕ) {m : ℕ} → m ≡ min place n → place - m ≡ place - n
-used_behind place n q = omega arith
-
-pub failed_as : (stage : Stage) (sent : ℕ) (bound : Bound) (place n : ℕ) {m : ℕ} → m ≡ min place n
-    → ◌≡◌ {A = Taken} (record { stage = stage; held = 0; used = place - m; sent = sent; bound = bound }) (record { stage = stage; held = 0; used = place - n; sent = sent; bound = bound })
-failed_as stage sent bound place n q = λ i. record { stage = stage; held = 0; used = used_behind place n q i; sent = sent; bound = bound }
-
-pub asks_as : (x : Endpoint) (stage : Stage) (sent : ℕ) {hold hold' : List ℕ} {k : Held} (place n : ℕ) {m : ℕ} → Binds x hold k hold' → m ≡ min place n
-    → Asks x stage (place - n) sent hold (record { stage = stage; held = k.len; used = place - m; sent = sent; bound = k.bound }) hold'
-asks_as x stage sent place n b q = record { is = λ i. record { stage = stage; held = b.long i; used = used_behind place n q i; sent = sent; bound = b.bound i }; holds = b.holds }
+pub asks_as : (x : Endpoint) (stage : Stage) (sent : ℕ) {hold hold' : List ℕ} {k : Held} {used m : ℕ} → Binds x hold k hold' → m ≡ used
+    → Asks x stage used sent hold (record { stage = stage; held = k.len; used = m; sent = sent; bound = k.bound }) hold'
+asks_as x stage sent b q = record { is = λ i. record { stage = stage; held = b.long i; used = q i; sent = sent; bound = b.bound i }; holds = b.holds }
 
 -- behind the first n bytes of the hold
 module _ (n : ℕ) (hold p : List ℕ) (long : length hold ≡ 1014) (few : n ≤ 1014) where

@@ -2,7 +2,9 @@
 use Prim.Native.Nat.{ℕ, ◌+◌, ◌-◌, ◌≤◌}
 use native.Mathlib.Nat.{le_refl, add-zero}
 use native.Mathlib.Omega.{arith}
-use mathlib.Core.Path.{◌≡◌, refl, sym, ap, ◌∙◌}
+use mathlib.Core.Path.{◌≡◌, refl, sym, ap, subst, ◌∙◌}
+use Rattle.std.specs.Prelude.{Option, Some, None}
+use Rattle.std.proofs.lemmas.Option.{none-some, same_Some}
 use mathlib.Core.Bool.{Bool, true, false, true≢false, ◌&&◌}
 use mathlib.Core.List.{List, [], ◌++◌, append-nil}
 use lib.ListN.{length, take, drop, length-drop, take-append-drop}
@@ -12,9 +14,7 @@ use Rattle.protocol.specs.declared.Version.{Version}
 use lib.Dec.{eqb}
 use Rattle.protocol.specs.Bytes.{Bytes, byte, same}
 use Rattle.protocol.proofs.Bytes.{bytes_part}
-use Rattle.protocol.specs.declared.Verdict as judge
-use Rattle.protocol.specs.declared.Decision as code
-use Rattle.protocol.specs.declared.Decision.TheVariants.{Undecided, Decided}
+use Rattle.protocol.specs.Answers as judge
 use Rattle.protocol.specs.Client.{told, judged}
 use Rattle.proxy_spec.specs.declared.Field.{Field}
 use Rattle.proxy_spec.specs.declared.Field.TheVariants.{First, Methods, User, Password, Head, Address, Request, UserId, Name}
@@ -32,9 +32,7 @@ use Rattle.proxy_decisions.specs.destination.Last.{Last}
 use Rattle.buffers.specs.write.Written.{Wrote, overwrite}
 use Rattle.buffers.proofs.write.Laws.{then}
 use Rattle.buffers.proofs.write.Parts.{part_from}
-use Rattle.proxy_delivery.specs.declared.turns.Next.{Next}
 use Rattle.proxy_delivery.specs.declared.turns.Turn.{Turn}
-use Rattle.proxy_delivery.specs.declared.turns.Step.{Step}
 use Rattle.proxy_delivery.specs.turns.Turns.{awaited_in, Rests, Ready, Worked, Goes, Steps}
 use Rattle.talk.specs.Decision.{Decision, undecided, decided, good, bad, Verdict}
 use Rattle.talk.specs.Talk.{feed, moving, sending, unmoved}
@@ -132,9 +130,8 @@ module _ (c : Setup) (f : Field) (bytes : List ℕ) where
       abbrev pub m : List ℕ
       m = take (end - place) (drop place bytes)
 
-      abbrev pub stepped : Stage → ℕ → Step
-      stepped s behind =
-          record { turn = record { stage = s; last = f; begin = place; place = end; sent = behind }; again = (awaited_in s f).some; next = (awaited_in s f).field }
+      abbrev pub stepped : Stage → ℕ → Turn
+      stepped s behind = record { stage = s; last = f; begin = place; place = end; sent = behind }
 
       within_end : end ≤ length bytes
       within_end = let i = within_at place (end - place) good h e in omega arith
@@ -152,11 +149,11 @@ module _ (c : Setup) (f : Field) (bytes : List ℕ) where
       last_of v q = last_field c f m v q (alone (drop place bytes) (end - place) e)
 
       pub good_steps : (behind : ℕ) (out' : List ℕ) → Wrote out sent (said_by (due_at c f m).says) behind out'
-          → Steps c f bytes place out sent (stepped (due_at c f m).stage behind) out'
+          → Steps c f bytes place out sent (stepped (due_at c f m).stage behind, awaited_in (due_at c f m).stage) out'
       good_steps behind out' w = go (due_at c f m).stage refl
         where
           over : (s : Stage) → (due_at c f m).stage ≡ s → (feed (server c) (talk_from c s (asks_at f m)) (drop end bytes) ≡ unmoved (session_at s (asks_at f m) (drop end bytes)))
-              → Rests s (drop end bytes) → Ready s f m → Worked c f bytes place out sent (stepped s behind).turn out'
+              → Rests s (drop end bytes) → Ready s f m → Worked c f bytes place out sent (stepped s behind) out'
           over s q g rests ready =
               let z = fed s q ∙ ap (λ x. moving (end - place) (sending (said_by (due_at c f m).says) x)) g in
               record {
@@ -170,11 +167,11 @@ module _ (c : Setup) (f : Field) (bytes : List ℕ) where
                 ready = ready;
               }
 
-          go : (s : Stage) → (due_at c f m).stage ≡ s → Steps c f bytes place out sent (stepped s behind) out'
+          go : (s : Stage) → (due_at c f m).stage ≡ s → Steps c f bytes place out sent (stepped s behind, awaited_in s) out'
           go (Awaiting g) q =
               record {
-                stops = λ z. absurd (true≢false z);
-                goes = λ z.
+                stops = λ z. absurd (none-some g (sym z));
+                goes = λ next z. subst (λ (x : Field). Goes c f bytes place out sent (stepped (Awaiting g) behind) x out') (same_Some g next z) (
                     record {
                       said = said_by (due_at c f m).says;
                       whole = fed (Awaiting g) q;
@@ -183,37 +180,37 @@ module _ (c : Setup) (f : Field) (bytes : List ℕ) where
                       few = said_few (due_at c f m).says;
                       onward = k;
                       inside = within_end;
-                    };
+                    });
               }
-          go (Asked v) q = record { stops = λ z. over (Asked v) q (feed_over c (Asked v) (asks_at f m) (drop end bytes) tt) tt (last_of v q); goes = λ z. absurd (true≢false (sym z)) }
+          go (Asked v) q = record { stops = λ z. over (Asked v) q (feed_over c (Asked v) (asks_at f m) (drop end bytes) tt) tt (last_of v q); goes = λ next z. absurd (none-some next z) }
           go (Open v) q = absurd (never_open c f m v q)
-          go (Failed x) q = record { stops = λ z. over (Failed x) q (feed_over c (Failed x) (asks_at f m) (drop end bytes) tt) tt tt; goes = λ z. absurd (true≢false (sym z)) }
+          go (Failed x) q = record { stops = λ z. over (Failed x) q (feed_over c (Failed x) (asks_at f m) (drop end bytes) tt) tt tt; goes = λ next z. absurd (none-some next z) }
 
 -- ---- as the code has them
 
 module _ {c : Setup} {f : Field} {bytes : List ℕ} {place : ℕ} {out : List ℕ} {sent : ℕ} where
-  pub stopped : {out' : List ℕ} {r : Step} (t : Turn) (next : Field) → r ≡ record { turn = t; again = false; next = next } → Worked c f bytes place out sent t out' → Steps c f bytes place out sent r out'
-  stopped t next e w = rw e (record { stops = λ z. w; goes = λ z. absurd (true≢false (sym z)) })
+  pub stopped : {out' : List ℕ} (t : Turn) → Worked c f bytes place out sent t out' → Steps c f bytes place out sent (t, None) out'
+  stopped t w = record { stops = λ z. w; goes = λ next z. absurd (none-some next z) }
 
   pub stepping : {out' : List ℕ} (end : ℕ) → place ≤ length bytes → place ≤ end → reads f (drop place bytes) ≡ decided (end - place) good
-      → (d : Due) → d ≡ due_at c f (take (end - place) (drop place bytes)) → (behind : ℕ) → Wrote out sent (said_by d.says) behind out' → (a : Next) → a ≡ awaited_in d.stage f
-      → Steps c f bytes place out sent (record { turn = record { stage = d.stage; last = f; begin = place; place = end; sent = behind }; again = a.some; next = a.field }) out'
+      → (d : Due) → d ≡ due_at c f (take (end - place) (drop place bytes)) → (behind : ℕ) → Wrote out sent (said_by d.says) behind out' → (a : Option Field) → a ≡ awaited_in d.stage
+      → Steps c f bytes place out sent (record { stage = d.stage; last = f; begin = place; place = end; sent = behind }, a) out'
   stepping end h k e d q behind w a z = rw (z, q) (good_steps c f bytes place out sent h end k e behind _ (rw q at w))
 
-pub told_undecided : {r : code.Decision} {d : Decision SocksError} → told r ≡ d → r ≡ Undecided → d ≡ undecided
+pub told_undecided : {r : judge.Decision} {d : Decision SocksError} → told r ≡ d → r ≡ judge.Undecided → d ≡ undecided
 told_undecided t e = sym t ∙ ap told e
 
-pub told_decided : {r : code.Decision} {d : Decision SocksError} (n : ℕ) (v w : judge.Verdict) → told r ≡ d → r ≡ Decided n v → v ≡ w → d ≡ decided n (judged w)
-told_decided n v w t e q = sym t ∙ ap told (e ∙ ap (Decided n) q)
+pub told_decided : {r : judge.Decision} {d : Decision SocksError} (n : ℕ) (v w : judge.Verdict) → told r ≡ d → r ≡ judge.Decided n v → v ≡ w → d ≡ decided n (judged w)
+told_decided n v w t e q = sym t ∙ ap told (e ∙ ap (judge.Decided n) q)
 
 -- a turn that goes on, and what the next field and those behind it do
-pub goes_worked : (c : Setup) (f : Field) (bytes : List ℕ) (place : ℕ) (out : List ℕ) (sent : ℕ) (r : Step) (out₁ : List ℕ) (t : Turn) (out₂ : List ℕ)
-    → Goes c f bytes place out sent r out₁ → Worked c r.next bytes r.turn.place out₁ r.turn.sent t out₂ → Worked c f bytes place out sent t out₂
-goes_worked c f bytes place out sent r out₁ t out₂ g w =
+pub goes_worked : (c : Setup) (f : Field) (bytes : List ℕ) (place : ℕ) (out : List ℕ) (sent : ℕ) (r : Turn) (next : Field) (out₁ : List ℕ) (t : Turn) (out₂ : List ℕ)
+    → Goes c f bytes place out sent r next out₁ → Worked c next bytes r.place out₁ r.sent t out₂ → Worked c f bytes place out sent t out₂
+goes_worked c f bytes place out sent r next out₁ t out₂ g w =
     let i = g.onward in
     let j = w.onward in
     let l = w.spans in
-    let z = g.whole ∙ ap (λ x. moving (r.turn.place - place) (sending g.said x)) w.whole in
+    let z = g.whole ∙ ap (λ x. moving (r.place - place) (sending g.said x)) w.whole in
     record {
       said = g.said ++ w.said;
       whole = same_fed _ _ (ap (λ x. x.session) z) (ap (λ x. x.sent) z) (ap (λ x. x.place) z ∙ omega arith);

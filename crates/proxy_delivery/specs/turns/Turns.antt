@@ -1,5 +1,5 @@
 -- F-3: the turns of a delivery: what a field and those behind it do with the unread bytes.
-use Rattle.std.specs.Prelude.{ℕ, ◌-◌, ◌≤◌, ◌<◌, ◌≡◌, true, false, List, length, take, drop}
+use Rattle.std.specs.Prelude.{ℕ, ◌-◌, ◌≤◌, ◌<◌, ◌≡◌, Option, Some, None, List, length, take, drop}
 use Rattle.proxy_spec.specs.declared.Field.{Field}
 use Rattle.proxy_spec.specs.declared.Stage.{Stage}
 use Rattle.proxy_spec.specs.declared.Stage.TheVariants.{Awaiting, Asked, Open, Failed}
@@ -7,17 +7,15 @@ use Rattle.proxy_spec.specs.End.{Setup}
 use Rattle.proxy_spec.specs.Side.{talk_at, server}
 use Rattle.proxy_decisions.specs.decision.Due.{asks_at, session_at, rank}
 use Rattle.proxy_decisions.specs.destination.Last.{Last}
-use Rattle.proxy_delivery.specs.declared.turns.Next.{Next}
 use Rattle.proxy_delivery.specs.declared.turns.Turn.{Turn}
-use Rattle.proxy_delivery.specs.declared.turns.Step.{Step}
 use Rattle.buffers.specs.write.Written.{Wrote}
 use Rattle.talk.specs.Talk.{feed, moving, sending}
 
-abbrev pub awaited_in : Stage → Field → Next
-awaited_in (Awaiting f) field = record { some = true; field = f }
-awaited_in (Asked v) field = record { some = false; field = field }
-awaited_in (Open v) field = record { some = false; field = field }
-awaited_in (Failed e) field = record { some = false; field = field }
+abbrev pub awaited_in : Stage → Option Field
+awaited_in (Awaiting f) = Some f
+awaited_in (Asked v) = None
+awaited_in (Open v) = None
+awaited_in (Failed e) = None
 
 -- what is then held fits the hold
 abbrev pub Rests : Stage → List ℕ → Type 0
@@ -49,15 +47,15 @@ pub record Worked (c : Setup) (f : Field) (bytes : List ℕ) (place : ℕ) (out 
   pub ready : Ready r.stage r.last (last_in r bytes)
 
 -- another turn follows at a next field, behind what was read and said
-pub record Goes (c : Setup) (f : Field) (bytes : List ℕ) (place : ℕ) (out : List ℕ) (sent : ℕ) (r : Step) (out' : List ℕ) : Type 0 where
+pub record Goes (c : Setup) (f : Field) (bytes : List ℕ) (place : ℕ) (out : List ℕ) (sent : ℕ) (t : Turn) (next : Field) (out' : List ℕ) : Type 0 where
   pub said : List ℕ
-  pub whole : feed (server c) (talk_at c f) (drop place bytes) ≡ moving (r.turn.place - place) (sending said (feed (server c) (talk_at c r.next) (drop r.turn.place bytes)))
-  pub wrote : Wrote out sent said r.turn.sent out'
-  pub falls : rank r.next < rank f
+  pub whole : feed (server c) (talk_at c f) (drop place bytes) ≡ moving (t.place - place) (sending said (feed (server c) (talk_at c next) (drop t.place bytes)))
+  pub wrote : Wrote out sent said t.sent out'
+  pub falls : rank next < rank f
   pub few : length said ≤ 22
-  pub onward : place ≤ r.turn.place
-  pub inside : r.turn.place ≤ length bytes
+  pub onward : place ≤ t.place
+  pub inside : t.place ≤ length bytes
 
-pub record Steps (c : Setup) (f : Field) (bytes : List ℕ) (place : ℕ) (out : List ℕ) (sent : ℕ) (r : Step) (out' : List ℕ) : Type 0 where
-  pub stops : r.again ≡ false → Worked c f bytes place out sent r.turn out'
-  pub goes : r.again ≡ true → Goes c f bytes place out sent r out'
+pub record Steps (c : Setup) (f : Field) (bytes : List ℕ) (place : ℕ) (out : List ℕ) (sent : ℕ) (r : Turn × Option Field) (out' : List ℕ) : Type 0 where
+  pub stops : r.1 ≡ None → Worked c f bytes place out sent r.0 out'
+  pub goes : (next : Field) → r.1 ≡ Some next → Goes c f bytes place out sent r.0 next out'

@@ -110,24 +110,9 @@ own_request status e w = rw e at w
 
 module _ (v : Version) (s : ℕ) where
   module _ (e : v ≡ V4) where
-    pub known_four : 90 ≤ s → leb s 93 ≡ true → s ≡ status_to v s
-    known_four i t = rw (e, le-leb 90 s i, t)
-
-    pub above_four : 90 ≤ s → leb s 93 ≡ false → 91 ≡ status_to v s
-    above_four i t = rw (e, le-leb 90 s i, t)
-
-    pub below_four : s < 90 → 91 ≡ status_to v s
-    below_four i = rw (e, lt-leb 90 s i)
-
     pub answers_four : (x : Endpoint) {t : ℕ} {o o' : List ℕ} {at next : ℕ} → t ≡ status_to v s → Wrote o at (request_reply t x) next o' → Wrote o at (reply_to v s x) next o'
     answers_four x q w = rw e (rw (q, e) at w)
 
   module _ (e : v ≡ V5) where
-    pub known_five : s ≤ 8 → s ≡ status_to v s
-    known_five i = rw (e, le-leb s 8 i)
-
-    pub above_five : 8 < s → 1 ≡ status_to v s
-    above_five i = rw (e, lt-leb s 8 i)
-
     pub answers_five : (x : Endpoint) {t : ℕ} {o o' : List ℕ} {at next : ℕ} → t ≡ status_to v s → Wrote o at (connect_reply t x) next o' → Wrote o at (reply_to v s x) next o'
     answers_five x q w = rw e (rw (q, e) at w)

@@ -1,25 +1,21 @@
 use mathlib.Core.Path.{sym, ◌∙◌}
-use mathlib.Core.List.{◌++◌}
-use lib.ListN.{length-append}
 use Rattle.proxy_requests.proofs.Texts.{text_late, text_long, text_few, text_whole}
 use Rattle.proxy_requests.proofs.read_text.Goals as goal
+use Rattle.proxy_requests.proofs.read_text.Goals.{else-branch-eq0-via-then-branch-eq0+else-fewest-n, else-branch-eq0-via-else-branch-eq0}
 
-pub returns-then-held-piece : goal.returns-then-held-piece
-returns-then-held-piece c =
+pub returns-in_err-get : goal.returns-in_err-get
+returns-in_err-get c =
     let a = c.args in
-    text_late a.fewest a.most (a.held.now ++ a.piece.now) _ c.run_of-n.ensures (rw (length-append a.held.now a.piece.now) c.if-held-piece.true)
+    rw c.from_residual.ensures (text_late a.fewest a.most a.bytes.now _ c.run_of-n.ensures.run (sym c.get.ensures ∙ c.in_err-get.was))
 
-pub returns-then-byte-ne0 : goal.returns-then-byte-ne0
-returns-then-byte-ne0 c =
+pub returns-then-fewest-n : goal.returns-then-fewest-n
+returns-then-fewest-n c =
     let a = c.args in
-    c.malformed.ensures ∙ text_long a.fewest a.most (a.held.now ++ a.piece.now) _ c.run_of-n.ensures (rw (length-append a.held.now a.piece.now) c.if-held-piece.false) (λ e. c.if-byte-ne0.true (c.byte.ensures ∙ e))
+    c.good.ensures ∙ text_whole a.fewest a.most a.bytes.now _ c.run_of-n.ensures.run _ (sym c.get.ensures ∙ c.in_ok-get.was) c.if-branch-eq0.true c.if-fewest-n.true
 
-pub returns-then-n-fewest : goal.returns-then-n-fewest
-returns-then-n-fewest c =
+pub returns-else-branch-eq0 : goal.returns-else-branch-eq0
+returns-else-branch-eq0 c =
     let a = c.args in
-    c.malformed-then-n-fewest.ensures ∙ text_few a.fewest a.most (a.held.now ++ a.piece.now) _ c.run_of-n.ensures (rw (length-append a.held.now a.piece.now) c.if-held-piece.false) (sym c.byte.ensures ∙ c.if-byte-ne0.false) c.if-n-fewest.true
-
-pub returns : goal.returns
-returns c =
-    let a = c.args in
-    c.good.ensures ∙ text_whole a.fewest a.most (a.held.now ++ a.piece.now) _ c.run_of-n.ensures (rw (length-append a.held.now a.piece.now) c.if-held-piece.false) (sym c.byte.ensures ∙ c.if-byte-ne0.false) c.if-n-fewest.false
+    let g = sym c.get.ensures ∙ c.in_ok-get.was in
+    c.malformed.ensures
+    ∙ (elim c.else-branch-eq0.branch [ else-branch-eq0-via-then-branch-eq0+else-fewest-n w ↦ text_few a.fewest a.most a.bytes.now _ c.run_of-n.ensures.run _ g w.if-branch-eq0.true w.if-fewest-n.false | else-branch-eq0-via-else-branch-eq0 w ↦ text_long a.fewest a.most a.bytes.now _ c.run_of-n.ensures.run _ g w.if-branch-eq0.false ])

@@ -13,12 +13,10 @@ use Rattle.protocol.specs.Bytes.{byte}
 use Rattle.protocol.specs.AddressReading.{hex_value}
 use Rattle.buffers.proofs.write.Parts.{part_from}
 use Rattle.proxy_url_spec.specs.Reading.{Read, reads, dies, mapped, map, behind, onward, either, seq, always, or, one, many, unreserved, itself, is_hex, hex_of, pair_of, second_of, mark_of, escaped_of, credential_of}
-use Rattle.proxy_url.specs.declared.credentials.EscapedRead.{EscapedRead}
-use Rattle.proxy_url.specs.declared.credentials.CredentialRead.{CredentialRead}
-use Rattle.proxy_url.specs.Coded.{zeros, escaped_coded, credential_coded}
+use Rattle.proxy_url.specs.declared.credentials.Credential.{Credential}
+use Rattle.proxy_url.specs.Coded.{zeros, credential_coded}
 use Rattle.proxy_url.proofs.Readers.{byte_behind, mark_first, one_first, ahead, ahead_none, ahead_more, many_marked, many_full, many_more, many_dies}
-use Rattle.proxy_url.proofs.Told.{escaped_told}
-use Rattle.proxy_url.proofs.Inside.{Inside, inside_word, inside_one, inside_or, inside_map, inside_both, inside_many, told_inside}
+use Rattle.proxy_url.proofs.Inside.{Inside, inside_word, inside_one, inside_or, inside_map, inside_both, inside_many}
 
 -- ---- a byte, as it is or escaped
 
@@ -91,59 +89,60 @@ goes_first mark text =
     }
 
 module _ {mark : ℕ} (some : mark ≡ 0 → ⊥) {text bytes : List ℕ} {len at : ℕ} (g : Going mark text bytes len at) where
-  pub marked : byte text at ≡ mark → record { found = true; next = at + 1; len = len; bytes = bytes } ≡ credential_coded (credential_of mark text)
+  pub marked : byte text at ≡ mark → ◌≡◌ {A = Read Credential} (reads (record { len = len; bytes = bytes }) (at + 1)) (mapped credential_coded (credential_of mark text))
   marked e =
       let l = g.long in
       let f = g.few in
       let n : length (take len bytes) ≡ len = length-take-le len bytes (omega arith) in
       rw (← g.rest, many_marked escaped_of mark some (drop at text) (255 - len) (byte_behind text at ∙ e), append-nil (take len bytes), n, ← g.unwritten, take-append-drop len bytes)
 
+  pub marked_last : byte text at ≡ mark → 255 ≤ len → ◌≡◌ {A = Read Credential} (reads (record { len = 255; bytes = bytes }) (at + 1)) (mapped credential_coded (credential_of mark text))
+  marked_last e h = let f = g.few in let z : 255 ≡ len = omega arith in rw z (marked e)
+
   module _ (other : byte text at ≡ mark → ⊥) where
-    pub full : 255 ≤ len → credential_of mark text ≡ dies at
+    pub full : 255 ≤ len → ◌≡◌ {A = Read Credential} (dies at) (mapped credential_coded (credential_of mark text))
     full h =
         let z : 255 - len ≡ 0 = omega arith in
         rw (← g.rest, z, many_full escaped_of mark some (drop at text) (λ e. other (sym (byte_behind text at) ∙ e)), add-zero at)
 
-    module _ (more : len < 255) {r : EscapedRead} (read : r ≡ escaped_coded (escaped_of (take (length text - at) (drop at text)))) where
+    module _ (more : len < 255) where
       left : 255 - len ≡ suc (255 - (len + 1))
       left = omega arith
 
-      at_place : r ≡ escaped_coded (escaped_of (drop at text))
-      at_place = rw (part_from text at) at read
+      pub stuck : {n : ℕ} → escaped_of (take (length text - at) (drop at text)) ≡ dies n → ◌≡◌ {A = Read Credential} (dies (at + n)) (mapped credential_coded (credential_of mark text))
+      stuck {n} read =
+          let e : escaped_of (drop at text) ≡ dies n = rw (part_from text at) at read in
+          rw (← g.rest, left, many_dies escaped_of mark some (drop at text) (λ z. other (sym (byte_behind text at) ∙ z)) (255 - (len + 1)) e)
 
-      pub stuck : r.found ≡ false → credential_of mark text ≡ dies (at + r.next)
-      stuck q =
-          let (n, e) = escaped_told.is_dead (escaped_of (drop at text)) at_place q in
-          rw (at_place, e, ← g.rest, left, many_dies escaped_of mark some (drop at text) (λ z. other (sym (byte_behind text at) ∙ z)) (255 - (len + 1)) e)
-
-      pub goes_on : r.found ≡ true → Going mark text (set bytes len r.value) (len + 1) (at + r.next)
-      goes_on q =
-          let (v, n, e) = escaped_told.is_read (escaped_of (drop at text)) at_place q in
+      pub goes_on : {v n : ℕ} → escaped_of (take (length text - at) (drop at text)) ≡ reads v n → Going mark text (set bytes len v) (len + 1) (at + n)
+      goes_on {v} {n} read =
+          let e : escaped_of (drop at text) ≡ reads v n = rw (part_from text at) at read in
           let l = g.long in
           let i = g.inside in
           let k : len < length bytes = omega arith in
           let d = length-drop at text in
           let w : take (len + 1) (set bytes len v) ≡ take len bytes ++ (v ∷ []) = rw add-one (take-suc-set bytes len v k) in
           let o = rw e at (inside_escaped (drop at text)) in
-          rw (at_place, e)
-          (record {
+          record {
             few = omega arith;
             long = rw length-set l;
             unwritten = rw (drop-set-lt (len + 1) bytes len v (omega arith)) (sym (drop-drop 1 len bytes) ∙ ap (drop 1) (g.unwritten ∙ ap (λ (j : ℕ). replicate {A = ℕ} j 0) left));
             inside = omega arith;
             rest = rw (w, ← drop-drop n at text, ahead_more, ← many_more escaped_of mark some (drop at text) (λ z. other (sym (byte_behind text at) ∙ z)) (255 - (len + 1)) e, ← left) g.rest;
-          })
+          }
 
-pub escaped_inside : (text : List ℕ) (at : ℕ) {r : EscapedRead} → r ≡ escaped_coded (escaped_of (take (length text - at) (drop at text))) → at ≤ length text → at + r.next ≤ length text
-escaped_inside text at {r} e h =
+pub dies_inside : (text : List ℕ) (at : ℕ) {n : ℕ} → escaped_of (take (length text - at) (drop at text)) ≡ dies n → at ≤ length text → at + n ≤ length text
+dies_inside text at {n} e h =
     let d = length-drop at text in
-    let b = (told_inside (λ u. 0) escaped_coded (λ y. 0) (λ y. y.next) (λ v n. (refl, refl)) (λ n. (refl, refl)) (escaped_of (drop at text)) (inside_escaped (drop at text)) (rw (part_from text at) at e)).1 in
+    let b : n ≤ length (drop at text) = rw (rw (part_from text at) at e) at (inside_escaped (drop at text)) in
+    omega arith
+
+pub reads_inside : (text : List ℕ) (at : ℕ) {v n : ℕ} → escaped_of (take (length text - at) (drop at text)) ≡ reads v n → at ≤ length text → at + n ≤ length text
+reads_inside text at {v} {n} e h =
+    let d = length-drop at text in
+    let (a, b) = rw (rw (part_from text at) at e) at (inside_escaped (drop at text)) in
     omega arith
 
 pub inside_credential : (mark : ℕ) → Inside (λ u. 0) (credential_of mark)
 unfolding credential_of
 inside_credential mark = inside_many escaped_of mark inside_escaped 255
-
-pub credential_inside : (mark : ℕ) (s : List ℕ) {r : CredentialRead} → r ≡ credential_coded (credential_of mark s) → r.next ≤ length s
-credential_inside mark s e =
-    (told_inside (λ u. 0) credential_coded (λ y. 0) (λ y. y.next) (λ v n. (refl, refl)) (λ n. (refl, refl)) (credential_of mark s) (inside_credential mark s) e).1

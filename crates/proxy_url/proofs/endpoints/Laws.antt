@@ -1,62 +1,57 @@
 -- F-9: a host, a colon and a port, way out by way out.
-use Prim.Native.Nat.{ℕ, ◌+◌, ◌-◌, ◌≤◌}
+use Prim.Native.Nat.{ℕ, ◌+◌, ◌≤◌}
 use native.Mathlib.Omega.{arith}
-use mathlib.Core.Path.{◌≡◌, refl}
-use mathlib.Core.Bool.{true, false}
+use mathlib.Core.Path.{◌≡◌, sym, ◌∙◌}
 use mathlib.Core.List.{List}
-use lib.ListN.{length, take, drop, length-drop}
+use lib.ListN.{length, drop, length-drop}
+use Rattle.std.specs.Prelude.{Result, Ok, Err}
 use Rattle.buffers.proofs.write.Parts.{part_from}
-use Rattle.proxy_url_spec.specs.Reading.{dies, map, seq, always, host_of, port_of, plain_rest, plain_of}
-use Rattle.proxy_url.specs.declared.hosts.HostRead.{HostRead}
-use Rattle.proxy_url.specs.declared.ports.PortRead.{PortRead}
-use Rattle.proxy_url.specs.declared.endpoints.EndpointRead.{EndpointRead}
-use Rattle.proxy_url.specs.Coded.{host_coded, port_coded, endpoint_coded}
-use Rattle.proxy_url.proofs.Told.{host_told, port_told}
-use Rattle.proxy_url.proofs.Inside.{Inside, inside_map, inside_seq, told_inside}
+use Rattle.proxy_url_spec.specs.Reading.{Read, reads, dies, Hosted, mapped, map, seq, always, itself, host_of, port_of, plain_rest, plain_of}
+use Rattle.proxy_url.specs.declared.hosts.HostPart.{HostPart}
+use Rattle.proxy_url.specs.declared.endpoints.Endpoint.{Endpoint}
+use Rattle.proxy_url.specs.Coded.{host_coded, endpoint_coded, ending}
+use Rattle.proxy_url.proofs.Coded.{mapped_reads, mapped_dies, ending_reads, ending_dies}
+use Rattle.proxy_url.proofs.Inside.{Inside, inside_map, inside_seq}
+use Rattle.proxy_url.proofs.Parts.{from}
 use Rattle.proxy_url.proofs.hosts.Laws.{inside_host}
 use Rattle.proxy_url.proofs.ports.Laws.{inside_port}
 
-module _ (s : List ℕ) {h : HostRead} (e : h ≡ host_coded (host_of s)) where
-  pub host_inside : h.next ≤ length s
-  host_inside = (told_inside (λ v. v.at) host_coded (λ y. y.at) (λ y. y.next) (λ v n. (refl, refl)) (λ n. (refl, refl)) (host_of s) (inside_host s) e).1
-
-  pub host_stuck : h.found ≡ false → plain_of s ≡ dies h.next
+module _ (s : List ℕ) where
+  pub host_dies : {n : ℕ} → ◌≡◌ {A = Read HostPart} (mapped host_coded (host_of s)) (dies n) → ◌≡◌ {A = Result Endpoint ℕ} (Err n) (ending endpoint_coded (plain_of s))
   unfolding plain_of map seq
-  host_stuck f = let (n, q) = host_told.is_dead (host_of s) e f in rw (e, q)
+  host_dies e = rw (mapped_dies host_coded (host_of s) e)
 
-  module _ {p : PortRead} (d : p ≡ port_coded (port_of (take (length s - h.next) (drop h.next s)))) where
-    behind_host : p ≡ port_coded (port_of (drop h.next s))
-    behind_host = rw (part_from s h.next) at d
+  module _ {h : HostPart} {at : ℕ} (e : ◌≡◌ {A = Read HostPart} (mapped host_coded (host_of s)) (reads h at)) where
+    pub host_inside : at ≤ length s
+    host_inside = let (v, q, k) = mapped_reads host_coded (host_of s) e in (rw q at (inside_host s)).1
 
-    pub port_inside : h.next + p.next ≤ length s
-    port_inside =
-        let i = host_inside in
-        let l = length-drop h.next s in
-        let b = (told_inside (λ v. 0) port_coded (λ y. 0) (λ y. y.next) (λ v n. (refl, refl)) (λ n. (refl, refl)) (port_of (drop h.next s)) (inside_port (drop h.next s)) behind_host).1 in
-        omega arith
+    module _ {n : ℕ} (d : ending itself (port_of (from s at)) ≡ Err n) where
+      port_stuck : port_of (drop at s) ≡ dies n
+      port_stuck = ending_dies itself (port_of (drop at s)) (rw (part_from s at) at d)
 
-    module _ (f : h.found ≡ true) where
-      pub port_stuck : p.found ≡ false → plain_of s ≡ dies (h.next + p.next)
+      pub port_inside : at + n ≤ length s
+      port_inside =
+          let i = host_inside in
+          let l = length-drop at s in
+          let b : n ≤ length (drop at s) = rw port_stuck at (inside_port (drop at s)) in
+          omega arith
+
+      pub port_dies : ◌≡◌ {A = Result Endpoint ℕ} (Err (at + n)) (ending endpoint_coded (plain_of s))
       unfolding plain_of map seq
-      port_stuck g =
-          let (v, n, q) = host_told.is_read (host_of s) e f in
-          let b : p ≡ port_coded (port_of (drop n s)) = rw (e, q) at behind_host in
-          let (m, k) = port_told.is_dead (port_of (drop n s)) b g in
-          rw (e, q, b, k)
+      port_dies = let (v, q, k) = mapped_reads host_coded (host_of s) e in rw (q, port_stuck)
 
-      pub endpoint_whole : p.found ≡ true → record { found = true; next = h.next + p.next; at = h.at; len = h.len; port = p.port } ≡ endpoint_coded (plain_of s)
-      unfolding plain_of map seq
-      endpoint_whole g =
-          let (v, n, q) = host_told.is_read (host_of s) e f in
-          let b : p ≡ port_coded (port_of (drop n s)) = rw (e, q) at behind_host in
-          let (u, m, k) = port_told.is_read (port_of (drop n s)) b g in
-          rw (e, q, b, k)
+    pub endpoint_whole : {p : ℕ} → ending itself (port_of (from s at)) ≡ Ok p → ◌≡◌ {A = Result Endpoint ℕ} (Ok (record { host = h; port = p })) (ending endpoint_coded (plain_of s))
+    unfolding plain_of map seq
+    endpoint_whole {p} d = go (mapped_reads host_coded (host_of s) e) (ending_reads itself (port_of (drop at s)) (rw (part_from s at) at d))
+      where
+        go : (v : Hosted) × (host_of s ≡ reads v at) × (host_coded v ≡ h) → (u : ℕ) × (m : ℕ) × (port_of (drop at s) ≡ reads u m) × (u ≡ p)
+            → ◌≡◌ {A = Result Endpoint ℕ} (Ok (record { host = h; port = p })) (ending endpoint_coded (plain_of s))
+        go (v, q, k) (u, m, z, j) =
+            let l : ◌≡◌ {A = Result Endpoint ℕ} (Ok (record { host = h; port = p })) (Ok (record { host = host_coded v; port = u })) = λ i. Ok (record { host = sym k i; port = sym j i }) in
+            l ∙ rw (q, z)
 
 pub inside_plain : Inside (λ r. r.host_at) plain_of
 unfolding plain_of
 inside_plain =
     inside_map (λ r. r.host_at) plain_rest (seq host_of (always port_of))
     (inside_seq (λ v. v.at) (λ u. 0) (λ t. t.0.at) (λ v n u m h k. omega arith) host_of (always port_of) inside_host (λ v. inside_port))
-
-pub endpoint_inside : (s : List ℕ) {r : EndpointRead} → r ≡ endpoint_coded (plain_of s) → (r.at ≤ r.next) × (r.next ≤ length s)
-endpoint_inside s e = told_inside (λ v. v.host_at) endpoint_coded (λ y. y.at) (λ y. y.next) (λ v n. (refl, refl)) (λ n. (refl, refl)) (plain_of s) (inside_plain s) e

@@ -1,14 +1,14 @@
 -- F-9: a host read, way out by way out.
 use Prim.Native.Nat.{ℕ, zero, suc, ◌+◌, ◌-◌, ◌≤◌, ◌<◌, min}
-use native.Mathlib.Nat.{zero-add, add-zero}
+use native.Mathlib.Nat.{zero-add, add-zero, le_trans}
 use native.Mathlib.Numerals.{add-one, one-add}
 use native.Mathlib.Omega.{arith}
 use mathlib.Core.Path.{◌≡◌, refl, sym, ap, ◌∙◌}
 use mathlib.Core.Bool.{Bool, true, false, cond, ◌&&◌, and-false, true≢false}
 use mathlib.Core.Option.{Option, none, some}
 use mathlib.Core.List.{List, [], ◌∷◌, ◌++◌}
-use lib.ListN.{length, take, drop, length-append, drop_of_length-le}
-use lib.Seq.{take_at, take-suc, drop-cons, get_or-append_seam, length-take-le}
+use lib.ListN.{length, take, drop, length-take, drop_of_length-le}
+use lib.Seq.{take_at, take-suc, drop-cons, length-take-le}
 use lib.Dec.{leb, eqb, eqb-suc-zero}
 use borrow.Author.Tests.{leb-true, leb-false, eq-eqb, ne_eqb, eqb-true, eqb-false}
 use Rattle.protocol.specs.declared.AddressKind.{AddressKind}
@@ -21,8 +21,10 @@ use Rattle.buffers.specs.write.Written.{overwrite, Wrote}
 use Rattle.buffers.proofs.write.Laws.{then}
 use Rattle.buffers.proofs.write.Parts.{part_from}
 use Rattle.proxy_url_spec.specs.Reading.{Read, reads, dies, mapped, map, behind, onward, seq, always, common, word, one, consed, many, itself, mark_of, ipv6_by, is_some, ipv6_goes_on, along, ipv6_end, ipv6_text_of, Hosted, bracketed, brackets_of, host_byte, named, name_of, host_of}
-use Rattle.proxy_url.specs.Coded.{lastly, host_coded}
-use Rattle.proxy_url.specs.declared.hosts.HostRead.{HostRead}
+use Rattle.proxy_url.specs.Coded.{host_coded}
+use Rattle.proxy_url.specs.declared.hosts.HostPart.{HostPart}
+use Rattle.std.specs.List.{prefix_len}
+use Rattle.std.proofs.lemmas.List.Sums.{prefix_len-le-length}
 use Rattle.proxy_url.proofs.Readers.{byte_behind, byte_inside, mark_first, or_left, or_right, ahead, many_marked, many_full, many_more, many_dies}
 use Rattle.proxy_url.proofs.Inside.{Inside, bounded_cond, inside_or, inside_word, inside_one, inside_map, inside_seq, inside_both, inside_many}
 
@@ -46,10 +48,21 @@ by_kind : (o : Option (List ℕ)) → is_ipv6 (ipv6_text o).kind ≡ is_some o
 by_kind none = refl
 by_kind (some bs) = refl
 
-pub ended : {out out₁ out₂ : List ℕ} {n m : ℕ} {s e : List ℕ} → Wrote out 0 s n out₁ → Wrote out₁ n e m out₂
-    → {r : AddressText} {k : AddressKind} → r ≡ ipv6_text (ipv6_of (take m out₂)) → r.kind ≡ k → is_ipv6 k ≡ ipv6_by s e
-unfolding ipv6_by
-ended {s = s} {e = e} v w q t = rw (← t, q, written_first (then v w)) (by_kind (ipv6_of (s ++ e)))
+module _ {out out₁ out₂ : List ℕ} {n m : ℕ} {s e : List ℕ} (v : Wrote out 0 s n out₁) (w : Wrote out₁ n e m out₂) {r : AddressText} (q : r ≡ ipv6_text (ipv6_of (take m out₂))) where
+  by_address : is_ipv6 r.kind ≡ ipv6_by s e
+  unfolding ipv6_by
+  by_address = rw (q, written_first (then v w)) (by_kind (ipv6_of (s ++ e)))
+
+  pub ended : r.kind ≡ Ipv6 → true ≡ ipv6_by s e
+  ended k = sym (ap is_ipv6 k) ∙ by_address
+
+  pub ended_not : (r.kind ≡ Ipv6 → ⊥) → false ≡ ipv6_by s e
+  ended_not f = go r.kind refl ∙ by_address
+    where
+      go : (k : AddressKind) → r.kind ≡ k → false ≡ is_ipv6 r.kind
+      go Ipv4 z = rw z
+      go Ipv6 z = absurd (f z)
+      go Domain z = rw z
 
 -- ---- how far a text begins an IPv6 text, from a place on
 
@@ -78,16 +91,6 @@ module _ (test : List ℕ → Bool) (k : ℕ) (s : List ℕ) (n : ℕ) where
       go zero q b t = sym (add-zero n)
       go (suc j) q true t = rw (drop_of_length-le s (leb-true (length s) n t)) (sym (add-zero n))
       go (suc j) q false t = let l = leb-false (length s) n t in absurd (omega arith)
-
--- the last byte of a beginning that has one byte more
-lastly_snoc : (test : ℕ → Bool) (p : List ℕ) (b : ℕ) → lastly test (p ++ (b ∷ [])) ≡ test b
-unfolding lastly
-lastly_snoc test p b =
-    let z : length (p ++ (b ∷ [])) - 1 ≡ length p = rw length-append (omega arith) in
-    rw (z, get_or-append_seam p b [] 0)
-
-pub lastly_byte : (test : ℕ → Bool) (s : List ℕ) (n : ℕ) → n < length s → lastly test (take (n + 1) s) ≡ test (byte s n)
-lastly_byte test s n h = rw (add-one n, take-suc s n 0 h) (lastly_snoc test (take n s) (byte s n))
 
 along_inside : (test : List ℕ → Bool) (k : ℕ) (p s : List ℕ) → (along test k p s ≤ length s) × (along test k p s ≤ k)
 unfolding along
@@ -122,17 +125,17 @@ module _ (s : List ℕ) {n : ℕ} (e : n ≡ ipv6_end s) where
       go true q = rw q (last (eqb (byte s (n + 1)) 0x3A))
       go false q = let z : 1 + n ≡ n + 1 = omega arith in rw z
 
-  pub brackets_open : (byte s n ≡ 0x5D → ⊥) → brackets_of (0x5B ∷ s) ≡ dies (n + 1)
+  pub brackets_open : (byte s n ≡ 0x5D → ⊥) → ◌≡◌ {A = Read HostPart} (dies (n + 1)) (mapped host_coded (brackets_of (0x5B ∷ s)))
   brackets_open f = rw (brackets_is, ne_eqb (byte s n) 0x5D f)
 
-  pub brackets_other : ipv6_by (take n s) [] ≡ false → brackets_of (0x5B ∷ s) ≡ dies (n + 1)
+  pub brackets_other : ipv6_by (take n s) [] ≡ false → ◌≡◌ {A = Read HostPart} (dies (n + 1)) (mapped host_coded (brackets_of (0x5B ∷ s)))
   brackets_other q = rw (brackets_is, q, and-false (eqb (byte s n) 0x5D))
 
   module _ (closed : byte s n ≡ 0x5D) (q : ipv6_by (take n s) [] ≡ true) where
-    pub brackets_alone : (byte s (n + 1) ≡ 0x3A → ⊥) → brackets_of (0x5B ∷ s) ≡ dies (n + 2)
+    pub brackets_alone : (byte s (n + 1) ≡ 0x3A → ⊥) → ◌≡◌ {A = Read HostPart} (dies (n + 2)) (mapped host_coded (brackets_of (0x5B ∷ s)))
     brackets_alone f = rw (brackets_is, eq-eqb (byte s n) 0x5D closed, q, ne_eqb (byte s (n + 1)) 0x3A f)
 
-    pub brackets_whole : byte s (n + 1) ≡ 0x3A → record { found = true; next = n + 3; at = 1; len = n } ≡ host_coded (brackets_of (0x5B ∷ s))
+    pub brackets_whole : byte s (n + 1) ≡ 0x3A → ◌≡◌ {A = Read HostPart} (reads (record { at = 1; len = n }) (n + 3)) (mapped host_coded (brackets_of (0x5B ∷ s)))
     brackets_whole c = rw (brackets_is, eq-eqb (byte s n) 0x5D closed, q, eq-eqb (byte s (n + 1)) 0x3A c, length-take-le n s ipv6_inside.0)
 
 -- ---- host bytes, and the colon
@@ -141,70 +144,72 @@ module _ (s : List ℕ) {n : ℕ} (e : n ≡ ipv6_end s) where
 abbrev names_by : ℕ → ℕ → List ℕ → Read (List ℕ)
 names_by mark n s = cond (eqb (byte s n) mark) (reads (take n s) (n + 1)) (dies n)
 
+-- how many of the first bytes pass a test
+abbrev run : (ℕ → Bool) → ℕ → List ℕ → ℕ
+run test k s = prefix_len test (take k s)
+
 module _ (test : ℕ → Bool) (mark : ℕ) (some : mark ≡ 0 → ⊥) (past : test 0 ≡ false) (unlike : test mark ≡ false) where
-  many_along : (k : ℕ) (p s : List ℕ) → many (one test itself) mark k s ≡ names_by mark (along (lastly test) k p s) s
-  unfolding along one
-  many_along zero p s = go (eqb (byte s 0) mark) refl
+  many_along : (k : ℕ) (s : List ℕ) → many (one test itself) mark k s ≡ names_by mark (run test k s) s
+  unfolding one
+  many_along zero s = go (eqb (byte s 0) mark) refl
     where
       go : (b : Bool) → eqb (byte s 0) mark ≡ b → many (one test itself) mark zero s ≡ cond b (reads [] 1) (dies 0)
       go true q = many_marked (one test itself) mark some s zero (eqb-true (byte s 0) mark q)
       go false q = many_full (one test itself) mark some s (eqb-false (byte s 0) mark q)
-  many_along (suc k) p [] =
+  many_along (suc k) [] =
       let o : 0 ≡ mark → ⊥ = λ e. some (sym e) in
       rw (ne_eqb 0 mark o) (many_dies (one test itself) mark some [] o k refl)
-  many_along (suc k) p (b ∷ s) = rw (lastly_snoc test p b) (go (eqb b mark) refl (test b) refl (along (lastly test) k (p ++ (b ∷ [])) s) (many_along k (p ++ (b ∷ [])) s))
+  many_along (suc k) (b ∷ s) = go (eqb b mark) refl (test b) refl (run test k s) (many_along k s)
     where
       more : (m : ℕ) (t : Bool) → ahead (b ∷ []) 1 (cond t (reads (take m s) (m + 1)) (dies m)) ≡ cond t (reads (b ∷ take m s) (suc m + 1)) (dies (suc m))
       more m true = let z : 1 + (m + 1) ≡ suc m + 1 = omega arith in rw z
       more m false = rw one-add
 
-      go : (e : Bool) → eqb b mark ≡ e → (t : Bool) → test b ≡ t → (m : ℕ) → many (one test itself) mark k s ≡ names_by mark m s → many (one test itself) mark (suc k) (b ∷ s) ≡ names_by mark (cond t (suc m) 0) (b ∷ s)
+      go : (e : Bool) → eqb b mark ≡ e → (t : Bool) → test b ≡ t → (m : ℕ) → many (one test itself) mark k s ≡ names_by mark m s → many (one test itself) mark (suc k) (b ∷ s) ≡ names_by mark (cond t (1 + m) 0) (b ∷ s)
       go true e true q m ih = absurd (true≢false (sym q ∙ ap test (eqb-true b mark e) ∙ unlike))
       go true e false q m ih = rw e (many_marked (one test itself) mark some (b ∷ s) (suc k) (eqb-true b mark e))
-      go false e true q m ih = many_more (one test itself) mark some (b ∷ s) (eqb-false b mark e) k {v = b} {n = 1} (rw q) ∙ rw ih (more m (eqb (byte s m) mark))
+      go false e true q m ih = rw one-add (many_more (one test itself) mark some (b ∷ s) (eqb-false b mark e) k {v = b} {n = 1} (rw q) ∙ rw ih (more m (eqb (byte s m) mark)))
       go false e false q m ih = rw e (many_dies (one test itself) mark some (b ∷ s) (eqb-false b mark e) k {n = 0} (rw q))
 
 abbrev named_by : ℕ → List ℕ → Read Hosted
 named_by n s = cond (eqb n 0) (dies 0) (cond (eqb (byte s n) 0x3A) (reads (named (take n s)) (n + 1)) (dies n))
 
 -- one host byte and so many more
-names_along : (k : ℕ) (s : List ℕ) → mapped named (mapped consed (onward (one host_byte itself s) (always (many (one host_byte itself) 0x3A k)) s)) ≡ named_by (along (lastly host_byte) (suc k) [] s) s
-unfolding one along host_byte
+names_along : (k : ℕ) (s : List ℕ) → mapped named (mapped consed (onward (one host_byte itself s) (always (many (one host_byte itself) 0x3A k)) s)) ≡ named_by (run host_byte (suc k) s) s
+unfolding one host_byte
 names_along k [] = refl
-names_along k (b ∷ s) =
-    rw (lastly_snoc host_byte [] b)
-    (go (host_byte b) (along (lastly host_byte) k (b ∷ []) s) (many_along host_byte 0x3A (λ e. omega arith) refl refl k (b ∷ []) s))
+names_along k (b ∷ s) = go (host_byte b) (run host_byte k s) (many_along host_byte 0x3A (λ e. omega arith) refl refl k s)
   where
     more : (m : ℕ) (t : Bool) → mapped named (mapped consed (behind b 1 (cond t (reads (take m s) (m + 1)) (dies m)))) ≡ cond t (reads (named (b ∷ take m s)) (suc m + 1)) (dies (suc m))
     more m true = let z : 1 + (m + 1) ≡ suc m + 1 = omega arith in rw z
     more m false = rw one-add
 
     go : (t : Bool) (m : ℕ) → many (one host_byte itself) 0x3A k s ≡ names_by 0x3A m s
-        → mapped named (mapped consed (onward (cond t (reads b 1) (dies 0)) (always (many (one host_byte itself) 0x3A k)) (b ∷ s))) ≡ named_by (cond t (suc m) 0) (b ∷ s)
-    go true m q = rw (eqb-suc-zero m, q) (more m (eqb (byte s m) 0x3A))
+        → mapped named (mapped consed (onward (cond t (reads b 1) (dies 0)) (always (many (one host_byte itself) 0x3A k)) (b ∷ s))) ≡ named_by (cond t (1 + m) 0) (b ∷ s)
+    go true m q = rw (one-add, eqb-suc-zero m, q) (more m (eqb (byte s m) 0x3A))
     go false m q = refl
 
-name_is : (s : List ℕ) → name_of s ≡ named_by (along (lastly host_byte) 255 [] s) s
+name_is : (s : List ℕ) → name_of s ≡ named_by (run host_byte 255 s) s
 unfolding name_of map seq
 name_is s = names_along 254 s
 
-module _ (s : List ℕ) {n : ℕ} (e : n ≡ along (lastly host_byte) 255 [] s) where
-  pub name_inside : (n ≤ length s) × (n ≤ 255)
-  name_inside = rw e (along_inside (lastly host_byte) 255 [] s)
+module _ (s : List ℕ) {n : ℕ} (e : n ≡ prefix_len host_byte (take 255 s)) where
+  pub name_inside : n ≤ length s
+  name_inside = rw e (le_trans (prefix_len-le-length host_byte (take 255 s)) (omega (arith, length-take 255 s)))
 
-  pub name_none : n ≡ 0 → name_of s ≡ dies 0
+  pub name_none : n ≡ 0 → ◌≡◌ {A = Read HostPart} (dies 0) (mapped host_coded (name_of s))
   name_none z = rw (name_is s, ← e, z)
 
   module _ (some : n ≡ 0 → ⊥) where
-    pub name_whole : byte s n ≡ 0x3A → record { found = true; next = n + 1; at = 0; len = n } ≡ host_coded (name_of s)
-    name_whole c = rw (name_is s, ← e, ne_eqb n 0 some, eq-eqb (byte s n) 0x3A c, length-take-le n s name_inside.0)
+    pub name_whole : byte s n ≡ 0x3A → ◌≡◌ {A = Read HostPart} (reads (record { at = 0; len = n }) (n + 1)) (mapped host_coded (name_of s))
+    name_whole c = rw (name_is s, ← e, ne_eqb n 0 some, eq-eqb (byte s n) 0x3A c, length-take-le n s name_inside)
 
-    pub name_alone : (byte s n ≡ 0x3A → ⊥) → name_of s ≡ dies n
+    pub name_alone : (byte s n ≡ 0x3A → ⊥) → ◌≡◌ {A = Read HostPart} (dies n) (mapped host_coded (name_of s))
     name_alone f = rw (name_is s, ← e, ne_eqb n 0 some, ne_eqb (byte s n) 0x3A f)
 
 -- ---- either
 
-pub host_brackets : (s : List ℕ) {r : HostRead} → byte s 0 ≡ 0x5B → r ≡ host_coded (brackets_of (0x5B ∷ take (length s - 1) (drop 1 s))) → r ≡ host_coded (host_of s)
+pub host_brackets : (s : List ℕ) {r : Read HostPart} → byte s 0 ≡ 0x5B → r ≡ mapped host_coded (brackets_of (0x5B ∷ take (length s - 1) (drop 1 s))) → r ≡ mapped host_coded (host_of s)
 unfolding host_of name_of map seq one host_byte
 host_brackets [] e q = absurd (omega arith)
 host_brackets (b ∷ s) e q = rw (e, or_left brackets_of name_of (0x5B ∷ s) refl) (rw (part_from (b ∷ s) 1) at q)
@@ -213,7 +218,7 @@ no_bracket : (s : List ℕ) → (byte s 0 ≡ 0x5B → ⊥) → brackets_of s �
 unfolding brackets_of map seq
 no_bracket s f = rw (mark_first 0x5B (tt {0}) s (λ e. omega arith), ne_eqb (byte s 0) 0x5B f)
 
-pub host_name : (s : List ℕ) {r : HostRead} → (byte s 0 ≡ 0x5B → ⊥) → r ≡ host_coded (name_of s) → r ≡ host_coded (host_of s)
+pub host_name : (s : List ℕ) {r : Read HostPart} → (byte s 0 ≡ 0x5B → ⊥) → r ≡ mapped host_coded (name_of s) → r ≡ mapped host_coded (host_of s)
 unfolding host_of
 host_name s f q = rw (or_right brackets_of name_of s (no_bracket s f)) q
 

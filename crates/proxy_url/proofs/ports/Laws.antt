@@ -1,18 +1,19 @@
 -- F-9: the digits of a port: what a digit more comes to, and the two ends.
-use Prim.Native.Nat.{ℕ, zero, suc, ◌+◌, ◌*◌, ◌≤◌, ◌<◌}
+use Prim.Native.Nat.{ℕ, suc, ◌+◌, ◌*◌, ◌≤◌, ◌<◌}
 use native.Mathlib.Omega.{arith}
-use mathlib.Core.Path.{◌≡◌, refl, sym, ap, ◌∙◌}
+use mathlib.Core.Path.{◌≡◌, refl, sym, ◌∙◌}
 use mathlib.Core.Bool.{Bool, true, false, cond, false≢true}
 use mathlib.Core.List.{List, [], ◌∷◌}
 use lib.ListN.{length, drop}
-use lib.Dec.{ltb, eqb, eqb-suc-zero}
-use borrow.Author.Tests.{ltb-true, eqb-true, eq-eqb, ne_eqb, lt-ltb}
+use lib.Dec.{ltb, eqb}
+use borrow.Author.Tests.{ltb-true, eqb-true, eq-eqb, ne_eqb}
 use Rattle.protocol.specs.declared.Digits.{Digits}
 use Rattle.protocol.specs.Bytes.{byte}
 use Rattle.protocol.specs.AddressReading.{hex_value, digits_from}
 use Rattle.address_text.proofs.digits.Runs.{digits_step}
-use Rattle.proxy_url_spec.specs.Reading.{reads, dies, port_goes, port_by, port_of}
-use Rattle.proxy_url.specs.Coded.{port_coded}
+use Rattle.proxy_url_spec.specs.Reading.{itself, reads, dies, port_goes, port_by, port_of}
+use Rattle.std.specs.Prelude.{Result, Ok, Err}
+use Rattle.proxy_url.specs.Coded.{ending}
 use Rattle.proxy_url.proofs.Inside.{Bounded, Inside, bounded_cond}
 
 -- a digit that may follow keeps the value within 65535
@@ -34,17 +35,18 @@ module _ (s : List ℕ) (v n : ℕ) (inside : n < length s) (whole : digits_from
   digit_stops q = rw (← e, q) at (sym (digits_step port_goes 10 v n s inside)) ∙ whole
 
 module _ (s : List ℕ) {r : Digits} (whole : r ≡ digits_from port_goes 10 0 0 s) where
-  pub port_stops : r.count < length s → record { found = false; next = r.count; port = 0 } ≡ port_coded (port_of s)
+  pub port_stops : r.count < length s → ◌≡◌ {A = Result ℕ ℕ} (Err r.count) (ending itself (port_of s))
   unfolding port_of
   port_stops h = rw (← whole, ne_eqb r.count (length s) (λ e. omega arith))
 
-  pub port_ends : r.count ≡ length s → (r.count ≡ 0 → r.value ≡ 0) → record { found = ltb 0 r.count; next = r.count; port = r.value } ≡ port_coded (port_of s)
+  pub port_ends : r.count ≡ length s → (length s ≡ 0 → ⊥) → ◌≡◌ {A = Result ℕ ℕ} (Ok r.value) (ending itself (port_of s))
   unfolding port_of
-  port_ends e z = rw (← whole, eq-eqb r.count (length s) e) (go r.count r.value z)
-    where
-      go : (n v : ℕ) → (n ≡ 0 → v ≡ 0) → record { found = ltb 0 n; next = n; port = v } ≡ port_coded (cond (eqb n 0) (dies 0) (reads v n))
-      go zero v z = ap (λ (p : ℕ). record { found = false; next = 0; port = p }) (z refl)
-      go (suc n) v z = rw (eqb-suc-zero n, lt-ltb 0 (suc n) (omega arith))
+  port_ends e f = rw (← whole, eq-eqb r.count (length s) e, ne_eqb r.count 0 (λ z. f (sym e ∙ z)))
+
+pub port_none : (s : List ℕ) → length s ≡ 0 → ◌≡◌ {A = Result ℕ ℕ} (Err 0) (ending itself (port_of s))
+unfolding port_of digits_from
+port_none [] e = refl
+port_none (b ∷ s) e = absurd (omega arith)
 
 -- no digit stands past the text's end
 count_inside : (v n : ℕ) (s : List ℕ) → (digits_from port_goes 10 v n s).count ≤ n + length s

@@ -1,116 +1,140 @@
 -- F-9: what stands behind the scheme, way out by way out.
 use Prim.Native.Nat.{ℕ, ◌+◌, ◌≤◌, max}
 use native.Mathlib.Omega.{arith}
-use mathlib.Core.Path.{◌≡◌, refl, ◌∙◌}
-use mathlib.Core.Bool.{true, false}
+use mathlib.Core.Path.{◌≡◌, refl, sym, ◌∙◌}
 use mathlib.Core.List.{List}
 use lib.ListN.{length, drop, length-drop}
+use Rattle.std.specs.Prelude.{Result, Ok, Err, Some, None}
 use Rattle.protocol.specs.declared.Version.{Version}
 use Rattle.protocol.specs.declared.Version.TheVariants.{V4, V5}
 use Rattle.buffers.proofs.write.Parts.{part_from}
+use Rattle.proxy_url_spec.specs.Reading as R
 use Rattle.proxy_url_spec.specs.Reading.{Read, reads, dies, Hosted, mapped, map, seq, always, or, host_of, port_of, credential_of, plain_rest, plain_of, credential_rest, with_of, rest_of}
-use Rattle.proxy_url.specs.declared.credentials.CredentialRead.{CredentialRead}
-use Rattle.proxy_url.specs.declared.endpoints.EndpointRead.{EndpointRead}
-use Rattle.proxy_url.specs.declared.rests.RestRead.{RestRead}
-use Rattle.proxy_url.specs.Coded.{zeros, credential_coded, endpoint_coded, rest_coded}
-use Rattle.proxy_url.proofs.Told.{credential_told, endpoint_told, rest_told}
-use Rattle.proxy_url.proofs.Inside.{Inside, inside_or, inside_map, inside_seq, told_inside}
+use Rattle.proxy_url.specs.declared.credentials.Credential.{Credential}
+use Rattle.proxy_url.specs.declared.endpoints.Endpoint.{Endpoint}
+use Rattle.proxy_url.specs.declared.rests.Authority.{Authority}
+use Rattle.proxy_url.specs.Coded.{credential_coded, endpoint_coded, authority_coded, ending}
+use Rattle.proxy_url.proofs.Coded.{mapped_reads, mapped_dies, ending_reads, ending_dies}
+use Rattle.proxy_url.proofs.Inside.{Inside, inside_or, inside_map, inside_seq}
 use Rattle.proxy_url.proofs.Parts.{from}
-use Rattle.proxy_url.proofs.credentials.Laws.{inside_credential, credential_inside}
-use Rattle.proxy_url.proofs.endpoints.Laws.{inside_plain, endpoint_inside}
+use Rattle.proxy_url.proofs.credentials.Laws.{inside_credential}
+use Rattle.proxy_url.proofs.endpoints.Laws.{inside_plain}
 
 -- ---- user and password, a host and a port
 
-module _ (s : List ℕ) {u : CredentialRead} (e : u ≡ credential_coded (credential_of 0x3A s)) where
-  pub user_stuck : u.found ≡ false → with_of s ≡ dies u.next
+module _ (s : List ℕ) where
+  pub user_dies : {n : ℕ} → ◌≡◌ {A = Read Credential} (mapped credential_coded (credential_of 0x3A s)) (dies n) → ◌≡◌ {A = Result Authority ℕ} (Err n) (ending authority_coded (with_of s))
   unfolding with_of map seq
-  user_stuck f = let (n, q) = credential_told.is_dead (credential_of 0x3A s) e f in rw (e, q)
+  user_dies e = rw (mapped_dies credential_coded (credential_of 0x3A s) e)
 
-  module _ {w : CredentialRead} (d : w ≡ credential_coded (credential_of 0x40 (from s u.next))) where
-    pub password_inside : u.next + w.next ≤ length s
-    password_inside =
-        let h = credential_inside 0x3A s e in
-        let l = length-drop u.next s in
-        let k = rw (part_from s u.next) at (credential_inside 0x40 (from s u.next) d) in
-        omega arith
+  module _ {u : Credential} {at : ℕ} (e : ◌≡◌ {A = Read Credential} (mapped credential_coded (credential_of 0x3A s)) (reads u at)) where
+    pub user_inside : at ≤ length s
+    user_inside = let (v, q, k) = mapped_reads credential_coded (credential_of 0x3A s) e in (rw q at (inside_credential 0x3A s)).1
 
-    module _ (f : u.found ≡ true) where
-      pub password_stuck : w.found ≡ false → with_of s ≡ dies (u.next + w.next)
+    module _ {n : ℕ} (d : ◌≡◌ {A = Read Credential} (mapped credential_coded (credential_of 0x40 (from s at))) (dies n)) where
+      password_stuck : credential_of 0x40 (drop at s) ≡ dies n
+      password_stuck = mapped_dies credential_coded (credential_of 0x40 (drop at s)) (rw (part_from s at) at d)
+
+      pub password_inside : at + n ≤ length s
+      password_inside =
+          let i = user_inside in
+          let l = length-drop at s in
+          let b : n ≤ length (drop at s) = rw password_stuck at (inside_credential 0x40 (drop at s)) in
+          omega arith
+
+      pub password_dies : ◌≡◌ {A = Result Authority ℕ} (Err (at + n)) (ending authority_coded (with_of s))
       unfolding with_of map seq
-      password_stuck g =
-          let (v, n, q) = credential_told.is_read (credential_of 0x3A s) e f in
-          let b : w ≡ credential_coded (credential_of 0x40 (drop n s)) = rw (part_from s u.next, e, q) at d in
-          let (m, k) = credential_told.is_dead (credential_of 0x40 (drop n s)) b g in
-          rw (e, q, b, k)
+      password_dies = let (v, q, k) = mapped_reads credential_coded (credential_of 0x3A s) e in rw (q, password_stuck)
 
-    module _ {r : EndpointRead} (t : r ≡ endpoint_coded (plain_of (from (from s u.next) w.next))) where
-      pub with_inside : (r.at ≤ r.next) × (u.next + (w.next + r.next) ≤ length s)
-      with_inside =
-          let h = password_inside in
-          let l = length-drop u.next s in
-          let m = length-drop w.next (drop u.next s) in
-          let (a, k) = rw (part_from s u.next, part_from (drop u.next s) w.next) at (endpoint_inside (from (from s u.next) w.next) t) in
-          (a, omega arith)
+    module _ {w : Credential} {n : ℕ} (d : ◌≡◌ {A = Read Credential} (mapped credential_coded (credential_of 0x40 (from s at))) (reads w n)) where
+      password_read : (v : List ℕ) × (credential_of 0x40 (drop at s) ≡ reads v n) × (credential_coded v ≡ w)
+      password_read = mapped_reads credential_coded (credential_of 0x40 (drop at s)) (rw (part_from s at) at d)
 
-      module _ (f : u.found ≡ true) (g : w.found ≡ true) where
-        pub endpoint_stuck : r.found ≡ false → with_of s ≡ dies (u.next + (w.next + r.next))
+      pub behind_inside : n ≤ length (from s at)
+      behind_inside = rw (part_from s at) (let (v, q, k) = password_read in (rw q at (inside_credential 0x40 (drop at s))).1)
+
+      behind_long : (n ≤ length (drop at s)) × (at + length (drop at s) ≡ length s)
+      behind_long =
+          let i = user_inside in
+          let l = length-drop at s in
+          let (v, q, k) = password_read in
+          ((rw q at (inside_credential 0x40 (drop at s))).1, omega arith)
+
+      module _ {m : ℕ} (t : ending endpoint_coded (plain_of (from (from s at) n)) ≡ Err m) where
+        endpoint_stuck : plain_of (drop n (drop at s)) ≡ dies m
+        endpoint_stuck = ending_dies endpoint_coded (plain_of (drop n (drop at s))) (rw (part_from s at, part_from (drop at s) n) at t)
+
+        pub endpoint_inside : at + (n + m) ≤ length s
+        endpoint_inside =
+            let (i, o) = behind_long in
+            let l = length-drop n (drop at s) in
+            let b : m ≤ length (drop n (drop at s)) = rw endpoint_stuck at (inside_plain (drop n (drop at s))) in
+            omega arith
+
+        pub endpoint_dies : ◌≡◌ {A = Result Authority ℕ} (Err (at + (n + m))) (ending authority_coded (with_of s))
         unfolding with_of map seq
-        endpoint_stuck x =
-            let (v, n, q) = credential_told.is_read (credential_of 0x3A s) e f in
-            let b : w ≡ credential_coded (credential_of 0x40 (drop n s)) = rw (part_from s u.next, e, q) at d in
-            let (y, m, k) = credential_told.is_read (credential_of 0x40 (drop n s)) b g in
-            let c : r ≡ endpoint_coded (plain_of (drop m (drop n s))) = rw (part_from s u.next, part_from (drop u.next s) w.next, e, q, b, k) at t in
-            let (i, z) = endpoint_told.is_dead (plain_of (drop m (drop n s))) c x in
-            rw (e, q, b, k, c, z)
+        endpoint_dies =
+            let (v, q, k) = mapped_reads credential_coded (credential_of 0x3A s) e in
+            let (x, p, j) = password_read in
+            rw (q, p, endpoint_stuck)
 
-        pub with_whole : r.found ≡ true
-            → record { found = true; next = u.next + (w.next + r.next); auth = true; user = u.bytes; user_len = u.len; password = w.bytes; password_len = w.len; at = u.next + (w.next + r.at); len = r.len; port = r.port } ≡ rest_coded (with_of s)
+      module _ {r : Endpoint} (t : ending endpoint_coded (plain_of (from (from s at) n)) ≡ Ok r) where
+        pub host_inside : at + (n + r.host.at) ≤ length s
+        host_inside =
+            let (i, o) = behind_long in
+            let l = length-drop n (drop at s) in
+            let (v, m, q, k) = ending_reads endpoint_coded (plain_of (drop n (drop at s))) (rw (part_from s at, part_from (drop at s) n) at t) in
+            let (a, b) = rw q at (inside_plain (drop n (drop at s))) in
+            rw (← k) (omega arith)
+
+        pub with_whole : ◌≡◌ {A = Result Authority ℕ} (Ok (record { credentials = Some (u, w); endpoint = record { host = record { at = at + (n + r.host.at); len = r.host.len }; port = r.port } })) (ending authority_coded (with_of s))
         unfolding with_of map seq
-        with_whole x =
-            let (v, n, q) = credential_told.is_read (credential_of 0x3A s) e f in
-            let b : w ≡ credential_coded (credential_of 0x40 (drop n s)) = rw (part_from s u.next, e, q) at d in
-            let (y, m, k) = credential_told.is_read (credential_of 0x40 (drop n s)) b g in
-            let c : r ≡ endpoint_coded (plain_of (drop m (drop n s))) = rw (part_from s u.next, part_from (drop u.next s) w.next, e, q, b, k) at t in
-            let (i, o, z) = endpoint_told.is_read (plain_of (drop m (drop n s))) c x in
-            rw (e, q, b, k, c, z)
+        with_whole =
+            go (mapped_reads credential_coded (credential_of 0x3A s) e) password_read
+            (ending_reads endpoint_coded (plain_of (drop n (drop at s))) (rw (part_from s at, part_from (drop at s) n) at t))
+          where
+            go : (v : List ℕ) × (credential_of 0x3A s ≡ reads v at) × (credential_coded v ≡ u) → (x : List ℕ) × (credential_of 0x40 (drop at s) ≡ reads x n) × (credential_coded x ≡ w)
+                → (y : R.Rest) × (m : ℕ) × (plain_of (drop n (drop at s)) ≡ reads y m) × (endpoint_coded y ≡ r)
+                → ◌≡◌ {A = Result Authority ℕ} (Ok (record { credentials = Some (u, w); endpoint = record { host = record { at = at + (n + r.host.at); len = r.host.len }; port = r.port } })) (ending authority_coded (with_of s))
+            go (v, q, k) (x, p, j) (y, m, z, o) =
+                let l : ◌≡◌ {A = Result Authority ℕ}
+                (Ok (record { credentials = Some (u, w); endpoint = record { host = record { at = at + (n + r.host.at); len = r.host.len }; port = r.port } }))
+                (Ok (record { credentials = Some (credential_coded v, credential_coded x); endpoint = record { host = record { at = at + (n + y.host_at); len = length y.host }; port = y.port } }))
+                = λ i. Ok (record { credentials = Some (sym k i, sym j i); endpoint = record { host = record { at = at + (n + (sym o i).host.at); len = (sym o i).host.len }; port = (sym o i).port } }) in
+                l ∙ rw (q, p, z)
 
 -- ---- by the version
 
-module _ (s : List ℕ) {r : EndpointRead} (e : r ≡ endpoint_coded (plain_of s)) where
-  abbrev plainly : RestRead
-  plainly = record { found = r.found; next = r.next; auth = false; user = zeros; user_len = 0; password = zeros; password_len = 0; at = r.at; len = r.len; port = r.port }
+-- a text dies where the later of two readers does
+abbrev pub later : {A : Type 0} → ℕ → Result A ℕ → Result A ℕ
+later n (Ok v) = Ok v
+later n (Err m) = Err (max n m)
 
-  plain_told : plainly ≡ rest_coded (plain_of s)
+module _ (s : List ℕ) where
+  plain_authority : {r : Endpoint} → ending endpoint_coded (plain_of s) ≡ Ok r → ◌≡◌ {A = Result Authority ℕ} (Ok (record { credentials = None; endpoint = r })) (ending authority_coded (plain_of s))
   unfolding plain_of map
-  plain_told = rw e (go (seq host_of (always port_of) s))
+  plain_authority {r} e = go (seq host_of (always port_of) s) e
     where
-      go : (x : Read (Hosted × ℕ × ℕ)) → record { found = (endpoint_coded (mapped plain_rest x)).found; next = (endpoint_coded (mapped plain_rest x)).next; auth = false; user = zeros; user_len = 0; password = zeros; password_len = 0; at = (endpoint_coded (mapped plain_rest x)).at; len = (endpoint_coded (mapped plain_rest x)).len; port = (endpoint_coded (mapped plain_rest x)).port } ≡ rest_coded (mapped plain_rest x)
-      go (reads v n) = refl
-      go (dies n) = refl
+      go : (x : Read (Hosted × ℕ × ℕ)) → ending endpoint_coded (mapped plain_rest x) ≡ Ok r → ◌≡◌ {A = Result Authority ℕ} (Ok (record { credentials = None; endpoint = r })) (ending authority_coded (mapped plain_rest x))
+      go (reads v n) e = let z : endpoint_coded (plain_rest v) ≡ r = cc in rw (← z)
+      go (dies n) e = let z : ◌≡◌ {A = ℕ} 0 1 = cc in absurd (omega arith)
 
-  pub plain_whole : (version : Version) → r.found ≡ true → plainly ≡ rest_coded (rest_of version s)
+  pub plain_whole : (version : Version) {r : Endpoint} → ending endpoint_coded (plain_of s) ≡ Ok r → ◌≡◌ {A = Result Authority ℕ} (Ok (record { credentials = None; endpoint = r })) (ending authority_coded (rest_of version s))
   unfolding rest_of or
-  plain_whole V4 f = plain_told
-  plain_whole V5 f = let (v, n, q) = endpoint_told.is_read (plain_of s) e f in plain_told ∙ rw q
+  plain_whole V4 e = plain_authority e
+  plain_whole V5 e = let (v, n, q, k) = ending_reads endpoint_coded (plain_of s) e in plain_authority e ∙ rw q
 
-  pub plain_v4 : {version : Version} → version ≡ V4 → plainly ≡ rest_coded (rest_of version s)
+  pub plain_dies : {version : Version} {n : ℕ} → ending endpoint_coded (plain_of s) ≡ Err n → version ≡ V4 → ◌≡◌ {A = Result Authority ℕ} (Err n) (ending authority_coded (rest_of version s))
   unfolding rest_of
-  plain_v4 z = rw z plain_told
+  plain_dies e z = rw (z, ending_dies endpoint_coded (plain_of s) e)
 
-  module _ {version : Version} (z : version ≡ V5) (f : r.found ≡ false) {w : RestRead} (d : w ≡ rest_coded (with_of s)) where
-    pub with_v5 : w.found ≡ true → w ≡ rest_coded (rest_of version s)
-    unfolding rest_of or
-    with_v5 g =
-        let (n, q) = endpoint_told.is_dead (plain_of s) e f in
-        let (v, m, k) = rest_told.is_read (with_of s) d g in
-        rw (z, q, d, k)
-
-    pub neither_v5 : w.found ≡ false → rest_of version s ≡ dies (max r.next w.next)
-    unfolding rest_of or
-    neither_v5 g =
-        let (n, q) = endpoint_told.is_dead (plain_of s) e f in
-        let (m, k) = rest_told.is_dead (with_of s) d g in
-        rw (z, e, q, d, k)
+  pub with_later : {version : Version} {n : ℕ} → ending endpoint_coded (plain_of s) ≡ Err n → version ≡ V5 → later n (ending authority_coded (with_of s)) ≡ ending authority_coded (rest_of version s)
+  unfolding rest_of or
+  with_later {n = n} e z = rw (z, ending_dies endpoint_coded (plain_of s) e) (go (with_of s))
+    where
+      go : (x : Read R.Rest) → later n (ending authority_coded x) ≡ ending authority_coded (R.later n x)
+      go (reads v m) = refl
+      go (dies m) = refl
 
 -- ---- within the text
 
@@ -121,10 +145,7 @@ inside_with =
     (inside_seq (λ v. 0) (λ t. t.1 + t.2.host_at) (λ t. t.1 + (t.2.1 + t.2.2.host_at)) (λ v n u m h k. omega arith) (credential_of 0x3A) _ (inside_credential 0x3A)
     (λ v. inside_seq (λ v. 0) (λ r. r.host_at) (λ t. t.1 + t.2.host_at) (λ v n u m h k. omega arith) (credential_of 0x40) (always plain_of) (inside_credential 0x40) (λ v. inside_plain)))
 
-inside_rest : (version : Version) → Inside (λ r. r.host_at) (rest_of version)
+pub inside_rest : (version : Version) → Inside (λ r. r.host_at) (rest_of version)
 unfolding rest_of
 inside_rest V4 = inside_plain
 inside_rest V5 = inside_or (λ r. r.host_at) plain_of with_of inside_plain inside_with
-
-pub rest_inside : (version : Version) (s : List ℕ) {r : RestRead} → r ≡ rest_coded (rest_of version s) → (r.at ≤ r.next) × (r.next ≤ length s)
-rest_inside version s e = told_inside (λ v. v.host_at) rest_coded (λ y. y.at) (λ y. y.next) (λ v n. (refl, refl)) (λ n. (refl, refl)) (rest_of version s) (inside_rest version s) e

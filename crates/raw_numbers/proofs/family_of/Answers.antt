@@ -1,11 +1,12 @@
-use borrow.Author.Tests.{eq-eqb, ne_eqb}
+use Rattle.std.proofs.Common.{ap, sym, arith}
+use Rattle.std.proofs.lemmas.Bool.Decides.{nat_tests}
 use Rattle.raw_numbers.specs.Numbers.{family_of}
 use Rattle.raw_numbers.proofs.family_of.Goals as goal
 
-pub returns-then-n-eq4 : goal.returns-then-n-eq4
+pub returns-in-4 : goal.returns-in-4
 unfolding family_of
-returns-then-n-eq4 c = simp (eq-eqb _ _ c.if-n-eq4.true)
+returns-in-4 c = ap family_of (sym c.in-4.is)
 
-pub returns : goal.returns
+pub returns-in_default : goal.returns-in_default
 unfolding family_of
-returns c = simp (ne_eqb _ _ c.if-n-eq4.false)
+returns-in_default c = grind (arith, nat_tests)

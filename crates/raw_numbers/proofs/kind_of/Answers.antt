@@ -1,15 +1,16 @@
-use borrow.Author.Tests.{eq-eqb, ne_eqb}
+use Rattle.std.proofs.Common.{ap, sym, arith}
+use Rattle.std.proofs.lemmas.Bool.Decides.{nat_tests}
 use Rattle.raw_numbers.specs.Numbers.{kind_of}
 use Rattle.raw_numbers.proofs.kind_of.Goals as goal
 
-pub returns-then-n-eq3 : goal.returns-then-n-eq3
+pub returns-in-3 : goal.returns-in-3
 unfolding kind_of
-returns-then-n-eq3 c = simp (eq-eqb _ _ c.if-n-eq3.true)
+returns-in-3 c = ap kind_of (sym c.in-3.is)
 
-pub returns-then-n-eq4 : goal.returns-then-n-eq4
+pub returns-in-4 : goal.returns-in-4
 unfolding kind_of
-returns-then-n-eq4 c = simp (ne_eqb _ _ c.if-n-eq3.false, eq-eqb _ _ c.if-n-eq4.true)
+returns-in-4 c = ap kind_of (sym c.in-4.is)
 
-pub returns : goal.returns
+pub returns-in_default : goal.returns-in_default
 unfolding kind_of
-returns c = simp (ne_eqb _ _ c.if-n-eq3.false, ne_eqb _ _ c.if-n-eq4.false)
+returns-in_default c = grind (arith, nat_tests)

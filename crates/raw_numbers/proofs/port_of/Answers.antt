@@ -6,6 +6,6 @@ pub returns-then-n-lt65536 : goal.returns-then-n-lt65536
 unfolding port_of
 returns-then-n-lt65536 c = simp (lt-ltb _ _ c.if-n-lt65536.true)
 
-pub returns : goal.returns
+pub returns-else-n-lt65536 : goal.returns-else-n-lt65536
 unfolding port_of
-returns c = simp (le-ltb _ _ c.if-n-lt65536.false)
+returns-else-n-lt65536 c = simp (le-ltb _ _ c.if-n-lt65536.false)

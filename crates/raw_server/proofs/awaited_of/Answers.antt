@@ -1,43 +1,44 @@
-use borrow.Author.Tests.{eq-eqb, ne_eqb}
+use Rattle.std.proofs.Common.{arith}
+use Rattle.std.proofs.lemmas.Bool.Decides.{nat_tests}
 use Rattle.raw_server.specs.Raw.{awaited_of}
 use Rattle.raw_server.proofs.awaited_of.Goals as goal
 
-pub returns-then-raw-eq1 : goal.returns-then-raw-eq1
+pub returns-in-1 : goal.returns-in-1
 unfolding awaited_of
-returns-then-raw-eq1 c = simp (eq-eqb _ _ c.if-raw-eq1.true)
+returns-in-1 c = grind (arith, nat_tests, c.in-1.is)
 
-pub returns-then-raw-eq2 : goal.returns-then-raw-eq2
+pub returns-in-2 : goal.returns-in-2
 unfolding awaited_of
-returns-then-raw-eq2 c = simp (ne_eqb _ _ c.if-raw-eq1.false, eq-eqb _ _ c.if-raw-eq2.true)
+returns-in-2 c = grind (arith, nat_tests, c.in-2.is)
 
-pub returns-then-raw-eq3 : goal.returns-then-raw-eq3
+pub returns-in-3 : goal.returns-in-3
 unfolding awaited_of
-returns-then-raw-eq3 c = simp (ne_eqb _ _ c.if-raw-eq1.false, ne_eqb _ _ c.if-raw-eq2.false, eq-eqb _ _ c.if-raw-eq3.true)
+returns-in-3 c = grind (arith, nat_tests, c.in-3.is)
 
-pub returns-then-raw-eq4 : goal.returns-then-raw-eq4
+pub returns-in-4 : goal.returns-in-4
 unfolding awaited_of
-returns-then-raw-eq4 c = simp (ne_eqb _ _ c.if-raw-eq1.false, ne_eqb _ _ c.if-raw-eq2.false, ne_eqb _ _ c.if-raw-eq3.false, eq-eqb _ _ c.if-raw-eq4.true)
+returns-in-4 c = grind (arith, nat_tests, c.in-4.is)
 
-pub returns-then-raw-eq5 : goal.returns-then-raw-eq5
+pub returns-in-5 : goal.returns-in-5
 unfolding awaited_of
-returns-then-raw-eq5 c = simp (ne_eqb _ _ c.if-raw-eq1.false, ne_eqb _ _ c.if-raw-eq2.false, ne_eqb _ _ c.if-raw-eq3.false, ne_eqb _ _ c.if-raw-eq4.false, eq-eqb _ _ c.if-raw-eq5.true)
+returns-in-5 c = grind (arith, nat_tests, c.in-5.is)
 
-pub returns-then-raw-eq6 : goal.returns-then-raw-eq6
+pub returns-in-6 : goal.returns-in-6
 unfolding awaited_of
-returns-then-raw-eq6 c = simp (ne_eqb _ _ c.if-raw-eq1.false, ne_eqb _ _ c.if-raw-eq2.false, ne_eqb _ _ c.if-raw-eq3.false, ne_eqb _ _ c.if-raw-eq4.false, ne_eqb _ _ c.if-raw-eq5.false, eq-eqb _ _ c.if-raw-eq6.true)
+returns-in-6 c = grind (arith, nat_tests, c.in-6.is)
 
-pub returns-then-raw-eq7 : goal.returns-then-raw-eq7
+pub returns-in-7 : goal.returns-in-7
 unfolding awaited_of
-returns-then-raw-eq7 c = simp (ne_eqb _ _ c.if-raw-eq1.false, ne_eqb _ _ c.if-raw-eq2.false, ne_eqb _ _ c.if-raw-eq3.false, ne_eqb _ _ c.if-raw-eq4.false, ne_eqb _ _ c.if-raw-eq5.false, ne_eqb _ _ c.if-raw-eq6.false, eq-eqb _ _ c.if-raw-eq7.true)
+returns-in-7 c = grind (arith, nat_tests, c.in-7.is)
 
-pub returns-then-raw-eq8 : goal.returns-then-raw-eq8
+pub returns-in-8 : goal.returns-in-8
 unfolding awaited_of
-returns-then-raw-eq8 c = simp (ne_eqb _ _ c.if-raw-eq1.false, ne_eqb _ _ c.if-raw-eq2.false, ne_eqb _ _ c.if-raw-eq3.false, ne_eqb _ _ c.if-raw-eq4.false, ne_eqb _ _ c.if-raw-eq5.false, ne_eqb _ _ c.if-raw-eq6.false, ne_eqb _ _ c.if-raw-eq7.false, eq-eqb _ _ c.if-raw-eq8.true)
+returns-in-8 c = grind (arith, nat_tests, c.in-8.is)
 
-pub returns-then-raw-eq9 : goal.returns-then-raw-eq9
+pub returns-in-9 : goal.returns-in-9
 unfolding awaited_of
-returns-then-raw-eq9 c = simp (ne_eqb _ _ c.if-raw-eq1.false, ne_eqb _ _ c.if-raw-eq2.false, ne_eqb _ _ c.if-raw-eq3.false, ne_eqb _ _ c.if-raw-eq4.false, ne_eqb _ _ c.if-raw-eq5.false, ne_eqb _ _ c.if-raw-eq6.false, ne_eqb _ _ c.if-raw-eq7.false, ne_eqb _ _ c.if-raw-eq8.false, eq-eqb _ _ c.if-raw-eq9.true, ← c.ports_of.ensures)
+returns-in-9 c = grind (arith, nat_tests, c.in-9.is, c.ports_of.ensures)
 
-pub returns : goal.returns
+pub returns-in_default : goal.returns-in_default
 unfolding awaited_of
-returns c = simp (ne_eqb _ _ c.if-raw-eq1.false, ne_eqb _ _ c.if-raw-eq2.false, ne_eqb _ _ c.if-raw-eq3.false, ne_eqb _ _ c.if-raw-eq4.false, ne_eqb _ _ c.if-raw-eq5.false, ne_eqb _ _ c.if-raw-eq6.false, ne_eqb _ _ c.if-raw-eq7.false, ne_eqb _ _ c.if-raw-eq8.false, ne_eqb _ _ c.if-raw-eq9.false, ← c.ports_of-2.ensures)
+returns-in_default c = grind (arith, nat_tests, c.ports_of-in_default.ensures)

@@ -1,31 +1,28 @@
-use borrow.Author.Tests.{le-leb, lt-leb, eq-eqb, ne_eqb}
+use Rattle.std.proofs.Common.{arith}
+use Rattle.std.proofs.lemmas.Bool.Decides.{nat_tests}
 use Rattle.raw_server.specs.Raw.{stage_of}
 use Rattle.raw_server.proofs.stage_of.Goals as goal
 
-pub returns-then-raw-eq0 : goal.returns-then-raw-eq0
+pub returns-in-1-to-10 : goal.returns-in-1-to-10
 unfolding stage_of
-returns-then-raw-eq0 c = simp (eq-eqb _ _ c.if-raw-eq0.true, ← c.error_of.ensures)
+returns-in-1-to-10 c = grind (arith, nat_tests, c.awaited_of.ensures)
 
-pub returns-then-raw-le10 : goal.returns-then-raw-le10
+pub returns-in-11 : goal.returns-in-11
 unfolding stage_of
-returns-then-raw-le10 c = simp (ne_eqb _ _ c.if-raw-eq0.false, le-leb _ _ c.if-raw-le10.true, ← c.awaited_of.ensures)
+returns-in-11 c = grind (arith, nat_tests, c.in-11.is)
 
-pub returns-then-raw-eq11 : goal.returns-then-raw-eq11
+pub returns-in-12 : goal.returns-in-12
 unfolding stage_of
-returns-then-raw-eq11 c = simp (ne_eqb _ _ c.if-raw-eq0.false, lt-leb _ _ c.if-raw-le10.false, eq-eqb _ _ c.if-raw-eq11.true)
+returns-in-12 c = grind (arith, nat_tests, c.in-12.is)
 
-pub returns-then-raw-eq12 : goal.returns-then-raw-eq12
+pub returns-in-13 : goal.returns-in-13
 unfolding stage_of
-returns-then-raw-eq12 c = simp (ne_eqb _ _ c.if-raw-eq0.false, lt-leb _ _ c.if-raw-le10.false, ne_eqb _ _ c.if-raw-eq11.false, eq-eqb _ _ c.if-raw-eq12.true)
+returns-in-13 c = grind (arith, nat_tests, c.in-13.is)
 
-pub returns-then-raw-eq13 : goal.returns-then-raw-eq13
+pub returns-in-14 : goal.returns-in-14
 unfolding stage_of
-returns-then-raw-eq13 c = simp (ne_eqb _ _ c.if-raw-eq0.false, lt-leb _ _ c.if-raw-le10.false, ne_eqb _ _ c.if-raw-eq11.false, ne_eqb _ _ c.if-raw-eq12.false, eq-eqb _ _ c.if-raw-eq13.true)
+returns-in-14 c = grind (arith, nat_tests, c.in-14.is)
 
-pub returns-then-raw-eq14 : goal.returns-then-raw-eq14
+pub returns-in_default : goal.returns-in_default
 unfolding stage_of
-returns-then-raw-eq14 c = simp (ne_eqb _ _ c.if-raw-eq0.false, lt-leb _ _ c.if-raw-le10.false, ne_eqb _ _ c.if-raw-eq11.false, ne_eqb _ _ c.if-raw-eq12.false, ne_eqb _ _ c.if-raw-eq13.false, eq-eqb _ _ c.if-raw-eq14.true)
-
-pub returns : goal.returns
-unfolding stage_of
-returns c = simp (ne_eqb _ _ c.if-raw-eq0.false, lt-leb _ _ c.if-raw-le10.false, ne_eqb _ _ c.if-raw-eq11.false, ne_eqb _ _ c.if-raw-eq12.false, ne_eqb _ _ c.if-raw-eq13.false, ne_eqb _ _ c.if-raw-eq14.false, ← c.error_of-2.ensures)
+returns-in_default c = grind (arith, nat_tests, c.error_of.ensures)

@@ -1,35 +1,36 @@
-use borrow.Author.Tests.{eq-eqb, ne_eqb}
+use Rattle.std.proofs.Common.{ap, sym, arith}
+use Rattle.std.proofs.lemmas.Bool.Decides.{nat_tests}
 use Rattle.raw_session.specs.Raw.{stage_of}
 use Rattle.raw_session.proofs.stage_of.Goals as goal
 
-pub returns-then-n-eq1 : goal.returns-then-n-eq1
+pub returns-in-1 : goal.returns-in-1
 unfolding stage_of
-returns-then-n-eq1 c = simp (eq-eqb _ _ c.if-n-eq1.true)
+returns-in-1 c = ap (λ n. stage_of n c.args.error c.args.status) (sym c.in-1.is)
 
-pub returns-then-n-eq2 : goal.returns-then-n-eq2
+pub returns-in-2 : goal.returns-in-2
 unfolding stage_of
-returns-then-n-eq2 c = simp (ne_eqb _ _ c.if-n-eq1.false, eq-eqb _ _ c.if-n-eq2.true)
+returns-in-2 c = ap (λ n. stage_of n c.args.error c.args.status) (sym c.in-2.is)
 
-pub returns-then-n-eq3 : goal.returns-then-n-eq3
+pub returns-in-3 : goal.returns-in-3
 unfolding stage_of
-returns-then-n-eq3 c = simp (ne_eqb _ _ c.if-n-eq1.false, ne_eqb _ _ c.if-n-eq2.false, eq-eqb _ _ c.if-n-eq3.true)
+returns-in-3 c = ap (λ n. stage_of n c.args.error c.args.status) (sym c.in-3.is)
 
-pub returns-then-n-eq4 : goal.returns-then-n-eq4
+pub returns-in-4 : goal.returns-in-4
 unfolding stage_of
-returns-then-n-eq4 c = simp (ne_eqb _ _ c.if-n-eq1.false, ne_eqb _ _ c.if-n-eq2.false, ne_eqb _ _ c.if-n-eq3.false, eq-eqb _ _ c.if-n-eq4.true)
+returns-in-4 c = ap (λ n. stage_of n c.args.error c.args.status) (sym c.in-4.is)
 
-pub returns-then-n-eq5 : goal.returns-then-n-eq5
+pub returns-in-5 : goal.returns-in-5
 unfolding stage_of
-returns-then-n-eq5 c = simp (ne_eqb _ _ c.if-n-eq1.false, ne_eqb _ _ c.if-n-eq2.false, ne_eqb _ _ c.if-n-eq3.false, ne_eqb _ _ c.if-n-eq4.false, eq-eqb _ _ c.if-n-eq5.true)
+returns-in-5 c = ap (λ n. stage_of n c.args.error c.args.status) (sym c.in-5.is)
 
-pub returns-then-n-eq6 : goal.returns-then-n-eq6
+pub returns-in-6 : goal.returns-in-6
 unfolding stage_of
-returns-then-n-eq6 c = simp (ne_eqb _ _ c.if-n-eq1.false, ne_eqb _ _ c.if-n-eq2.false, ne_eqb _ _ c.if-n-eq3.false, ne_eqb _ _ c.if-n-eq4.false, ne_eqb _ _ c.if-n-eq5.false, eq-eqb _ _ c.if-n-eq6.true)
+returns-in-6 c = ap (λ n. stage_of n c.args.error c.args.status) (sym c.in-6.is)
 
-pub returns-then-n-eq7 : goal.returns-then-n-eq7
+pub returns-in-7 : goal.returns-in-7
 unfolding stage_of
-returns-then-n-eq7 c = simp (ne_eqb _ _ c.if-n-eq1.false, ne_eqb _ _ c.if-n-eq2.false, ne_eqb _ _ c.if-n-eq3.false, ne_eqb _ _ c.if-n-eq4.false, ne_eqb _ _ c.if-n-eq5.false, ne_eqb _ _ c.if-n-eq6.false, eq-eqb _ _ c.if-n-eq7.true)
+returns-in-7 c = ap (λ n. stage_of n c.args.error c.args.status) (sym c.in-7.is)
 
-pub returns : goal.returns
+pub returns-in_default : goal.returns-in_default
 unfolding stage_of
-returns c = simp (ne_eqb _ _ c.if-n-eq1.false, ne_eqb _ _ c.if-n-eq2.false, ne_eqb _ _ c.if-n-eq3.false, ne_eqb _ _ c.if-n-eq4.false, ne_eqb _ _ c.if-n-eq5.false, ne_eqb _ _ c.if-n-eq6.false, ne_eqb _ _ c.if-n-eq7.false, ← c.error_of.ensures)
+returns-in_default c = grind (arith, nat_tests, c.error_of.ensures)

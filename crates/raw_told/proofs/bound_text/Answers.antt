@@ -1,5 +1,8 @@
-use Rattle.raw_told.proofs.Laws.{says_fits, says_text}
+use Rattle.raw_told.proofs.Laws.{says_refusal, says_fits}
 use Rattle.raw_told.proofs.bound_text.Goals as goal
 
-pub returns : goal.returns
-returns c = record { tells = says_text c.args.session c.session_of-before.ensures _ _ _ c.bound_text-written.ensures.text_result c.answer_number.ensures; enough = says_fits c.args.session c.session_of-before.ensures _ _ _ c.bound_text-written.ensures.text_result c.bound_text-written.ensures.answer_value c.answer_number.ensures }
+pub returns-in-Err-clause-tells : goal.returns-in-Err-clause-tells
+returns-in-Err-clause-tells c = says_refusal c.args.session c.session_of.ensures _ _ _ c.bound_text.ensures.text_result c.in-Err.is c.number.ensures
+
+pub returns-in-Err-clause-enough : goal.returns-in-Err-clause-enough
+returns-in-Err-clause-enough c = says_fits c.args.session c.session_of.ensures _ _ _ c.bound_text.ensures.text_result c.in-Err.is c.number.ensures c.bound_text.ensures.enough

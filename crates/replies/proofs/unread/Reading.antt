@@ -10,7 +10,7 @@ use lib.Dec.{ltb}
 use borrow.Author.Tests.{lt-leb, ltb-true, ltb-false}
 use Rattle.protocol.specs.declared.Reply.{Reply}
 use Rattle.protocol.specs.declared.Reply.TheVariants.{NegotiationRes, AuthenticationRes, ProxyRes, Response}
-use Rattle.protocol.specs.declared.Decision.TheVariants.{Undecided}
+use Rattle.protocol.specs.Answers.{Undecided}
 use Rattle.protocol.specs.Bytes.{byte}
 use Rattle.protocol.specs.Replies.{decide, proxy_at}
 use Rattle.buffers.proofs.write.Parts.{part_from, drop_two}

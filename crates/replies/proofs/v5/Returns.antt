@@ -6,10 +6,7 @@ use Prim.Native.Nat.{ℕ, ◌≤◌}
 use lib.ListN.{length}
 use borrow.Author.Tests.{le-leb}
 use Rattle.protocol.specs.declared.SocksError.TheVariants.{Parsing}
-use Rattle.protocol.specs.declared.Verdict.{Verdict}
-use Rattle.protocol.specs.declared.Verdict.TheVariants.{Bad}
-use Rattle.protocol.specs.declared.Decision.{Decision}
-use Rattle.protocol.specs.declared.Decision.TheVariants.{Decided}
+use Rattle.protocol.specs.Answers.{Verdict, Bad, Decision, Decided}
 use Rattle.protocol.specs.Bytes.{byte}
 use Rattle.protocol.specs.Replies.{head_allowed, type_allowed, proxy_size, proxy_verdict, name_field, whole_at, type_at, proxy_at}
 use Rattle.reader.specs.declared.Two.{Two}

@@ -11,7 +11,7 @@ use Rattle.protocol.specs.declared.SocksError.{SocksError}
 use Rattle.protocol.specs.declared.SocksError.TheVariants.{ShortOutput, Settled}
 use Rattle.protocol.specs.declared.AuthMethod.TheVariants.{NoAuth, UserPass, NoneAcceptable}
 use Rattle.protocol.specs.declared.Reply.TheVariants.{NegotiationRes, AuthenticationRes, ProxyRes, Response}
-use Rattle.protocol.specs.declared.Answer.TheVariants.{Accepted, Refused}
+use Rattle.protocol.specs.Answers.{Accepted, Refused}
 use Rattle.buffers.specs.write.Written.{overwrite, Wrote}
 use Rattle.buffers.proofs.write.Laws.{wrote_length}
 use Rattle.client_stages.specs.declared.due.Lengths.{Lengths}
@@ -20,14 +20,11 @@ use Rattle.client_stages.specs.declared.due.Stage.TheVariants.{Awaiting, Open, F
 use Rattle.client_stages.specs.due.Due.{still_due}
 use Rattle.client_session.specs.declared.Ended as session
 use Rattle.client_session.specs.Calls as session-calls
-use Rattle.route_delivery.specs.declared.Hop.{Hop}
 use Rattle.route_delivery.specs.declared.Spot.{Spot}
 use Rattle.route_delivery.specs.declared.Relayed.{Relayed}
 use Rattle.route_delivery.specs.Relay.{hop_at, Relay, relayed, session_at, most_due, Relayable, RelayResult}
 use Rattle.route_session.specs.declared.calls.Route.{Route}
 use Rattle.route_session.specs.declared.calls.Delivered.{Delivered}
-use Rattle.route_session.specs.declared.calls.Taken.{Taken}
-use Rattle.route_session.specs.calls.Taking.{route_at, delivered_at}
 use Rattle.route_session.specs.calls.Calls.{Call, refusal, last_in, behind_in, room_in, session_in, with_session, is_over, moves, takes, deliver, delivered, DeliverResult, end, ended_by}
 
 -- ---- what is written from the output's start
@@ -59,9 +56,9 @@ module _ (r : Route) (piece out : List ℕ) {n : ℕ} (q : n ≡ behind_in r) wh
   abbrev spot : Spot
   spot = record { behind = n; stage = r.stage; held = r.held; bound = r.bound; attempts = r.attempts; sent = 0 }
 
-  pub relay_asks : length r.hold ≡ 261 → length r.bytes ≡ 8192 → r.attempts < 2 ^ 64 → room_in r ≤ length out → Relayable r.hops spot r.bytes r.hold (length out)
-  relay_asks h b a m =
-      record { few = omega (arith, q); small = a; whole = b; holds = h; roomy = omega (arith, q, m, due_most (hop_at r.hops n).lengths r.stage) }
+  pub relay_asks : length r.bytes ≡ 8192 → r.attempts < 2 ^ 64 → room_in r ≤ length out → Relayable r.hops spot r.bytes (length out)
+  relay_asks b a m =
+      record { few = omega (arith, q); small = a; whole = rw b (omega (arith, q)); roomy = omega (arith, q, m, due_most (hop_at r.hops n).lengths r.stage) }
 
   session_is : session_at r.hops r.bytes spot r.hold ≡ session_in r
   session_is = ap (λ (k : ℕ). session_at r.hops r.bytes (record { behind = k; stage = r.stage; held = r.held; bound = r.bound; attempts = r.attempts; sent = 0 }) r.hold) q
@@ -86,14 +83,6 @@ module _ (r : Route) (piece out : List ℕ) {n : ℕ} (q : n ≡ behind_in r) wh
 
 abbrev undelivered : SocksError → Route → Delivered
 undelivered e r = record { answer = Refused e; used = 0; sent = 0; route = r }
-
-pub untaken_as : (hops : List Hop) (count : ℕ) (p : Spot) (bytes hold : List ℕ) → p.sent ≡ 0 → {e : SocksError} {t : Taken} → t ≡ record { answer = Refused e; spot = p; used = 0 }
-    → delivered_at hops count bytes t hold ≡ undelivered e (route_at hops count p bytes hold)
-untaken_as hops count p bytes hold z {e} q =
-    ap (λ (t : Taken). delivered_at hops count bytes t hold) q ∙ (λ i. record { answer = Refused e; used = 0; sent = z i; route = route_at hops count p bytes hold })
-
-pub room_enough : (r : Route) {n out : ℕ} → n ≡ last_in r.count → 1024 * (n + 1) ≤ out → room_in r ≤ out
-room_enough r q h = omega (arith, q, h)
 
 module _ (r : Route) (piece out : List ℕ) {over : Bool} (v : over ≡ is_over r) where
   refused : (e : SocksError) {d : Delivered} → d ≡ undelivered e r → deliver r piece out ≡ refusal e r out → DeliverResult (deliver r piece out) piece d out

@@ -6,55 +6,38 @@ use mathlib.Core.Bool.{Bool, true, false, ◌||◌, true≢false}
 use mathlib.Core.List.{List, ◌++◌, map, append-nil}
 use lib.ListN.{length, take, drop, replicate, length-take, length-append, length-replicate, length-map}
 use lib.Dec.{ltb, eqb}
-use borrow.Author.Tests.{eq-eqb, ne_eqb, lt-ltb, le-ltb, ltb-false}
-use Rattle.protocol.specs.declared.Port.{Port}
+use borrow.Author.Tests.{eq-eqb, ltb-false}
+use Rattle.protocol.specs.Answers as code
 use Rattle.protocol.specs.declared.SocksError.{SocksError}
 use Rattle.protocol.specs.declared.SocksError.TheVariants.{ShortOutput, RouteLength}
-use Rattle.protocol.specs.declared.Answer as code
-use Rattle.protocol.specs.declared.Answer.TheVariants.{Accepted, Refused}
 use Rattle.protocol.specs.Opening.{refuse}
 use Rattle.buffers.specs.write.Written.{Wrote}
 use Rattle.buffers.proofs.write.Laws.{wrote_length}
 use Rattle.route_delivery.specs.declared.Hop.{Hop}
 use Rattle.route_delivery.specs.declared.Spot.{Spot}
-use Rattle.route_delivery.specs.Relay.{goes_at, begun_spot}
+use Rattle.route_delivery.specs.Relay.{goes_at, fresh_spot, begun_spot}
 use Rattle.route_session.specs.declared.plan.Proxy.{Proxy}
 use Rattle.route_session.specs.plan.Plan.{proxy_of, proxies_of, no_proxy, counted, route_of}
 use Rattle.route_spec.specs.Route as routing
 use Rattle.route_spec.specs.Route.{room_for, asked, asked_of, opening_for, unless_refused, check_in_turn, check, openings}
 use Rattle.route_session.specs.declared.calls.Opened.{Opened}
 use Rattle.route_session.proofs.calls.Laws.{written}
-use Rattle.route_session.specs.opening.First.{fresh_spot, opened_at}
+use Rattle.route_session.specs.opening.First.{opened_at}
 use Rattle.route_session.specs.calls.Calls.{Call, refusal, empty_route, begun_with, begins, open_by, size_answer, opening, opened, OpenResult}
 
 -- ---- the size of a route
 
-module _ (count out : ℕ) where
-  pub no_proxy_lem : count ≡ 0 → Refused RouteLength ≡ size_answer count out
-  no_proxy_lem q = rw (eq-eqb count 0 q)
-
-  module _ (s : count ≡ 0 → ⊥) where
-    pub too_many : 8 < count → Refused RouteLength ≡ size_answer count out
-    too_many h = rw (ne_eqb count 0 s, lt-ltb 8 count h)
-
-    module _ (m : count ≤ 8) where
-      pub too_short : out < 1024 * count → Refused ShortOutput ≡ size_answer count out
-      too_short h = rw (ne_eqb count 0 s, le-ltb 8 count m, lt-ltb out (1024 * count) h)
-
-      pub sized : 1024 * count ≤ out → Accepted ≡ size_answer count out
-      sized h = rw (ne_eqb count 0 s, le-ltb 8 count m, le-ltb out (1024 * count) h)
-
-clash : {e : SocksError} → Refused e ≡ Accepted → ⊥
+clash : {e : SocksError} → code.Refused e ≡ code.Accepted → ⊥
 clash q = let z : ◌≡◌ {A = ℕ} 0 1 = cc in absurd (omega arith)
 
 not_zero : (n : ℕ) → (n ≡ 0 → ⊥) → 0 < n
 not_zero n h = omega arith
 
 -- an accepted size
-pub size_has : (count out : ℕ) → size_answer count out ≡ Accepted → (0 < count) × ((count ≤ 8) × (1024 * count ≤ out))
+pub size_has : (count out : ℕ) → size_answer count out ≡ code.Accepted → (0 < count) × ((count ≤ 8) × (1024 * count ≤ out))
 size_has count out = go (eqb count 0) (ltb 8 count) (ltb out (1024 * count)) refl refl refl
   where
-    go : (a b c : Bool) → eqb count 0 ≡ a → ltb 8 count ≡ b → ltb out (1024 * count) ≡ c → refuse (a || b) RouteLength (refuse c ShortOutput Accepted) ≡ Accepted → (0 < count) × ((count ≤ 8) × (1024 * count ≤ out))
+    go : (a b c : Bool) → eqb count 0 ≡ a → ltb 8 count ≡ b → ltb out (1024 * count) ≡ c → refuse (a || b) RouteLength (refuse c ShortOutput code.Accepted) ≡ code.Accepted → (0 < count) × ((count ≤ 8) × (1024 * count ≤ out))
     go true b c x y z q = absurd (clash q)
     go false true c x y z q = absurd (clash q)
     go false false true x y z q = absurd (clash q)
@@ -71,7 +54,7 @@ begins_as hops count bytes out s b {out'} w {r} q =
     let (l, o) = written w in
     let g : length (goes_at hops bytes s.behind) ≡ length (goes_at hops bytes (count - 1)) = ap (λ (x : Spot). length (goes_at hops bytes x.behind)) b in
     record {
-      returned = q ∙ (λ i. record { answer = Accepted; sent = (l ∙ g) i; route = record { stage = (b i).stage; held = 0; hold = replicate 261 0; bound = (b i).bound; attempts = 0; count = count; behind = (b i).behind; hops = hops; bytes = bytes } });
+      returned = q ∙ (λ i. record { answer = code.Accepted; sent = (l ∙ g) i; route = record { stage = (b i).stage; held = 0; hold = replicate 261 0; bound = (b i).bound; attempts = 0; count = count; behind = (b i).behind; hops = hops; bytes = bytes } });
       output = o ∙ ap (λ (x : Spot). goes_at hops bytes x.behind ++ drop (length (goes_at hops bytes x.behind)) out) b;
       inside = rw q (omega (arith, w.inside, w.place, wrote_length w));
     }
@@ -84,7 +67,7 @@ counted_long ps count l = omega (arith, length-append (take count ps) (replicate
 counted_few : (ps : List Proxy) (count : ℕ) → count ≤ 8 → counted ps count ≡ take count ps
 counted_few ps count m = let z : count - 8 ≡ 0 = omega arith in rw z (append-nil (take count ps))
 
-module _ (text : List ℕ) (ps : List Proxy) (eight : length ps ≡ 8) (count : ℕ) (host : List ℕ) (port : Port) (out : List ℕ) where
+module _ (text : List ℕ) (ps : List Proxy) (eight : length ps ≡ 8) (count : ℕ) (host : List ℕ) (port : code.Port) (out : List ℕ) where
   abbrev a : routing.Route
   a = route_of text ps count host port
 
@@ -95,7 +78,7 @@ module _ (text : List ℕ) (ps : List Proxy) (eight : length ps ≡ 8) (count : 
       ≡ refuse (eqb count 0 || ltb 8 count) RouteLength (refuse (ltb (length out) (room_for count)) ShortOutput x)
   size_first x = ap (λ (n : ℕ). refuse (eqb n 0 || ltb 8 n) RouteLength (refuse (ltb (length out) (room_for n)) ShortOutput x)) proxies_long
 
-  unless : (b c : Bool) (x : code.Answer) → refuse b RouteLength (refuse c ShortOutput x) ≡ unless_refused (refuse b RouteLength (refuse c ShortOutput Accepted)) x
+  unless : (b c : Bool) (x : code.Answer) → refuse b RouteLength (refuse c ShortOutput x) ≡ unless_refused (refuse b RouteLength (refuse c ShortOutput code.Accepted)) x
   unless true c x = refl
   unless false true x = refl
   unless false false x = refl
@@ -104,14 +87,14 @@ module _ (text : List ℕ) (ps : List Proxy) (eight : length ps ≡ 8) (count : 
   unfolding check
   check_is = size_first (check_in_turn (asked a)) ∙ unless (eqb count 0 || ltb 8 count) (ltb (length out) (room_for count)) (check_in_turn (asked a))
 
-  pub opens_refused : {x : code.Answer} {e : SocksError} → x ≡ size_answer count (length out) → x ≡ Refused e → {r : Opened} → r ≡ record { answer = Refused e; sent = 0; route = empty_route e } → OpenResult (opening a out) r out
+  pub opens_refused : {x : code.Answer} {e : SocksError} → x ≡ size_answer count (length out) → x ≡ code.Refused e → {r : Opened} → r ≡ record { answer = code.Refused e; sent = 0; route = empty_route e } → OpenResult (opening a out) r out
   unfolding opening
   opens_refused {x} {e} s q {r} w =
-      let z : check a (length out) ≡ Refused e = check_is ∙ ap (λ (y : code.Answer). unless_refused y (check_in_turn (asked a))) (sym s ∙ q) in
+      let z : check a (length out) ≡ code.Refused e = check_is ∙ ap (λ (y : code.Answer). unless_refused y (check_in_turn (asked a))) (sym s ∙ q) in
       let o : open_by (check a (length out)) (openings a) out ≡ refusal e (empty_route e) out = ap (λ (y : code.Answer). open_by y (openings a) out) z in
       record { returned = w ∙ ap opened (sym o); output = ap (λ (c : Call). c.output) (sym o); inside = rw w (omega arith) }
 
-  pub opens_sized : {x : code.Answer} → x ≡ size_answer count (length out) → x ≡ Accepted → {r : Opened} {out' : List ℕ}
+  pub opens_sized : {x : code.Answer} → x ≡ size_answer count (length out) → x ≡ code.Accepted → {r : Opened} {out' : List ℕ}
       → OpenResult (open_by (check_in_turn (asked_of (proxies_of text (take count ps)) host port)) (map opening_for (asked_of (proxies_of text (take count ps)) host port)) out) r out' → OpenResult (opening a out) r out'
   unfolding opening
   opens_sized {x} s q {r} {out'} w =

@@ -2,8 +2,7 @@
 use Rattle.std.specs.Prelude.{ℕ, zero, suc, ◌+◌, ◌-◌, ◌*◌, ◌≤◌, min, ◌≡◌, Bool, true, cond, ◌||◌, List, [], ◌∷◌, ◌++◌, length, drop, replicate, leb, ltb, eqb}
 use Rattle.protocol.specs.declared.SocksError.{SocksError}
 use Rattle.protocol.specs.declared.SocksError.TheVariants.{ShortOutput, Settled, RouteLength}
-use Rattle.protocol.specs.declared.Answer as code
-use Rattle.protocol.specs.declared.Answer.TheVariants.{Accepted, Refused}
+use Rattle.protocol.specs.Answers as code
 use Rattle.protocol.specs.declared.Address.{Address}
 use Rattle.protocol.specs.declared.Outcome.{Outcome}
 use Rattle.protocol.specs.Bound.{unbound, bound_of}
@@ -32,7 +31,7 @@ abbrev pub Call : Type 0
 Call = Answer Route code.Answer
 
 abbrev pub refusal : SocksError → Route → List ℕ → Call
-refusal e r out = record { answer = Refused e; session = r; used = 0; sent = 0; output = out }
+refusal e r out = record { answer = code.Refused e; session = r; used = 0; sent = 0; output = out }
 
 -- ---- a route value and the session of the proxy that is spoken to
 
@@ -140,17 +139,17 @@ begun_with hops bytes count =
     }
 
 abbrev pub begins : Route → List ℕ → List ℕ → Call
-begins r first out = record { answer = Accepted; session = r; used = 0; sent = length first; output = first ++ drop (length first) out }
+begins r first out = record { answer = code.Accepted; session = r; used = 0; sent = length first; output = first ++ drop (length first) out }
 
 -- no route without an opening is accepted
 abbrev pub open_by : code.Answer → List Opening → List ℕ → Call
-open_by Accepted [] out = refusal RouteLength (empty_route RouteLength) out
-open_by Accepted (o ∷ os) out = begins (started_for o os) (first_of (first_reply o) (kept_by o)) out
-open_by (Refused e) os out = refusal e (empty_route e) out
+open_by code.Accepted [] out = refusal RouteLength (empty_route RouteLength) out
+open_by code.Accepted (o ∷ os) out = begins (started_for o os) (first_of (first_reply o) (kept_by o)) out
+open_by (code.Refused e) os out = refusal e (empty_route e) out
 
 -- what the number of proxies and the output lent answer, ahead of the openings' checks
 abbrev pub size_answer : ℕ → ℕ → code.Answer
-size_answer count out = refuse (eqb count 0 || ltb 8 count) RouteLength (refuse (ltb out (room_for count)) ShortOutput Accepted)
+size_answer count out = refuse (eqb count 0 || ltb 8 count) RouteLength (refuse (ltb out (room_for count)) ShortOutput code.Accepted)
 
 unfoldable pub opening : routing.Route → List ℕ → Call
 opening a out = open_by (check a (length out)) (openings a) out
@@ -160,7 +159,7 @@ opening a out = open_by (check a (length out)) (openings a) out
 abbrev pub moves : Route → Relay → List ℕ → Call
 moves r q out =
     record {
-      answer = Accepted;
+      answer = code.Accepted;
       session = with_session r q.behind q.session;
       used = q.used;
       sent = length q.sent;

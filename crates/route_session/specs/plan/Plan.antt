@@ -1,9 +1,6 @@
 -- F-5: a route as a caller gives it, and what preparing its openings comes to.
-use Rattle.std.specs.Prelude.{ℕ, ◌-◌, ◌*◌, ◌≡◌, Bool, true, false, List, [], ◌∷◌, ◌++◌, map, length, take, drop, replicate, leb}
-use Rattle.protocol.specs.declared.Port.{Port}
-use Rattle.protocol.specs.declared.Port.TheVariants.{Missing}
-use Rattle.protocol.specs.declared.Answer as code
-use Rattle.protocol.specs.declared.Answer.TheVariants.{Accepted, Refused}
+use Rattle.std.specs.Prelude.{ℕ, ◌-◌, ◌*◌, ◌≡◌, false, List, [], ◌∷◌, ◌++◌, map, length, take, drop, replicate}
+use Rattle.protocol.specs.Answers as code
 use Rattle.protocol.specs.declared.Reply.{Reply}
 use Rattle.protocol.specs.declared.Reply.TheVariants.{Response}
 use Rattle.protocol.specs.Opening.{Opening, first_reply}
@@ -16,10 +13,9 @@ use Rattle.client_session.specs.Calls.{kept_by, prepare5, prepare4}
 use Rattle.route_delivery.specs.declared.Hop.{Hop}
 use Rattle.protocol.specs.declared.Version.TheVariants as Version
 use Rattle.route_spec.specs.Route as route
-use Rattle.route_spec.specs.Route.{Asked, over5, over4, opening_for, check_in_turn}
+use Rattle.route_spec.specs.Route.{host_of, port_of, Asked, over5, over4, asked_by, opening_for, check_in_turn}
 use Rattle.route_session.specs.declared.plan.Proxy.{Proxy}
 use Rattle.route_session.specs.declared.plan.Part.{Part}
-use Rattle.route_session.specs.declared.plan.Planned.{Planned}
 
 -- ---- the route that is meant: hosts and credentials are parts of the text
 
@@ -47,7 +43,7 @@ no_proxy =
     record {
       version = Version.V4;
       host = record { from = 0; len = 0 };
-      port = Missing;
+      port = code.Missing;
       proxy_auth = false;
       optimistic = false;
       user = record { from = 0; len = 0 };
@@ -58,7 +54,7 @@ no_proxy =
 abbrev pub counted : List Proxy → ℕ → List Proxy
 counted ps count = take count ps ++ replicate (count - 8) no_proxy
 
-abbrev pub route_of : List ℕ → List Proxy → ℕ → List ℕ → Port → route.Route
+abbrev pub route_of : List ℕ → List Proxy → ℕ → List ℕ → code.Port → route.Route
 route_of text ps count host port = record { proxies = proxies_of text (counted ps count); host = host; port = port }
 
 -- ---- preparing
@@ -67,10 +63,9 @@ abbrev pub prepared_for : Asked → Prepared
 prepared_for (over5 a) = prepare5 a
 prepared_for (over4 a) = prepare4 a
 
--- of the first proxy of a row
-abbrev pub IsPrepared : Prepared → List Asked → Type 0
-IsPrepared r [] = ⊥
-IsPrepared r (a ∷ later) = r ≡ prepared_for a
+-- of a proxy with others behind it in a row
+abbrev pub asked_in_row : route.Proxy → List route.Proxy → List ℕ → code.Port → Asked
+asked_in_row p later host port = asked_by p.version p (host_of later host) (port_of later port)
 
 -- ---- what is kept, the last one's first
 
@@ -93,14 +88,8 @@ unfoldable pub bytes_for : List Opening → List ℕ
 bytes_for [] = []
 bytes_for (o ∷ os) = bytes_for os ++ (kept_by o).bytes
 
--- ---- as the code has it
-
-abbrev pub ends_with : code.Answer → ℕ → ℕ → Bool
-ends_with Accepted next count = leb count next
-ends_with (Refused e) next count = true
-
 -- what is answered, and if all are accepted what the arrays have at their start; what stood behind it stays
-pub record PlanResult (asks : List Asked) (hops : List Hop) (bytes : List ℕ) (r : Planned) (bytes' : List ℕ) : Type 0 where
-  pub answered : r.answer ≡ check_in_turn asks
-  pub hopped : r.answer ≡ Accepted → r.hops ≡ hops_for (map opening_for asks) ++ drop (length asks) hops
-  pub filled : r.answer ≡ Accepted → bytes' ≡ bytes_for (map opening_for asks) ++ drop (1024 * length asks) bytes
+pub record PlanResult (asks : List Asked) (hops : List Hop) (bytes : List ℕ) (r : code.Answer) (hops' : List Hop) (bytes' : List ℕ) : Type 0 where
+  pub answered : r ≡ check_in_turn asks
+  pub hopped : r ≡ code.Accepted → hops' ≡ hops_for (map opening_for asks) ++ drop (length asks) hops
+  pub filled : r ≡ code.Accepted → bytes' ≡ bytes_for (map opening_for asks) ++ drop (1024 * length asks) bytes

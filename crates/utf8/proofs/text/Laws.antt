@@ -1,30 +1,29 @@
--- The loop over a text, and texts in two parts.
-use Prim.Native.Nat.{ℕ, ◌+◌, ◌<◌, ◌≤◌}
-use native.Mathlib.Numerals.{add-one}
-use mathlib.Core.Path.{◌≡◌, refl, sym}
+-- A text's states as a fold, and texts in two parts.
+use Prim.Native.Nat.{ℕ, ◌<◌, suc}
+use mathlib.Core.Path.{◌≡◌, refl, sym, ap, ◌∙◌}
 use mathlib.Core.Bool.{true}
 use mathlib.Core.List.{List, [], ◌∷◌, ◌++◌}
-use lib.ListN.{length, get_or, drop, drop_of_length-le}
-use lib.Seq.{drop-cons}
 use borrow.Author.Tests.{lt-ltb}
+use Rattle.std.specs.List.{fold}
+use Rattle.std.specs.Str.{IsAscii}
 use Rattle.protocol.specs.declared.Utf8State.{Utf8State}
 use Rattle.protocol.specs.declared.Utf8State.TheVariants.{Boundary}
 use Rattle.protocol.specs.Utf8.{class_of, first, next, scan, is_boundary, is_utf8}
 
--- Where the rest of a text from a state ends as the whole does: a turn, and the text's end.
-module _ (s : List ℕ) (i : ℕ) (st whole : Utf8State) (inv : scan st (drop i s) ≡ whole) where
-  pub turn : (st' : Utf8State) → i < length s → st' ≡ next st (class_of (get_or s i 0)) → scan st' (drop (i + 1) s) ≡ whole
-  unfolding scan
-  turn st' h e = rw (e, add-one i) (rw (drop-cons s i 0 h) at inv)
-
-  pub at_end : length s ≤ i → st ≡ whole
-  unfolding scan
-  at_end h = rw (drop_of_length-le s h) at inv
+pub scan_fold : (st : Utf8State) (s : List ℕ) → fold (λ (x : Utf8State) (b : ℕ). next x (class_of b)) st s ≡ scan st s
+unfolding scan
+scan_fold st [] = refl
+scan_fold st (b ∷ s) = scan_fold (next st (class_of b)) s
 
 -- a byte below 80 is a character
-pub ascii : (b : ℕ) → b < 0x80 → Boundary ≡ next Boundary (class_of b)
+ascii : (b : ℕ) → b < 0x80 → next Boundary (class_of b) ≡ Boundary
 unfolding class_of next first
 ascii b h = rw (lt-ltb b 0x80 h)
+
+scan_ascii : (s : List ℕ) → IsAscii s → scan Boundary s ≡ Boundary
+unfolding scan
+scan_ascii [] h = refl
+scan_ascii (b ∷ s) h = ap (λ (st : Utf8State). scan st s) (ascii b (h 0)) ∙ scan_ascii s (λ i. h (suc i))
 
 pub scan_append : (st : Utf8State) (s t : List ℕ) → scan st (s ++ t) ≡ scan (scan st s) t
 unfolding scan
@@ -37,6 +36,6 @@ module _ (s t : List ℕ) where
   unfolding is_utf8
   in_two_lem mid end e f = rw (f, e, scan_append Boundary s t)
 
-  pub in_two_ascii : scan Boundary s ≡ Boundary → scan Boundary t ≡ Boundary → true ≡ is_utf8 (s ++ t)
+  pub in_two_ascii : IsAscii s → IsAscii t → true ≡ is_utf8 (s ++ t)
   unfolding is_boundary
-  in_two_ascii e f = in_two_lem Boundary Boundary (sym e) (sym f)
+  in_two_ascii h k = in_two_lem Boundary Boundary (sym (scan_ascii s h)) (sym (scan_ascii t k))

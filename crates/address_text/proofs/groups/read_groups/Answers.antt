@@ -1,4 +1,5 @@
-use Rattle.std.proofs.Common.{◌-◌, false, arith}
+use Rattle.std.proofs.Common.{arith}
+use Rattle.address_text.specs.declared.digits.Radix.TheVariants.{Hexadecimal}
 use Rattle.address_text.proofs.digits.Runs.{within_small, digits_within}
 use Rattle.address_text.proofs.groups.Colons.{no_rows, rows_end, group_turn}
 use Rattle.address_text.proofs.groups.read_groups.Goals as goal
@@ -7,7 +8,7 @@ pub loop-k-init : goal.loop-k-init
 loop-k-init c = no_rows _
 
 pub high-requires : goal.high-requires
-high-requires c = let d = c.read_digits-group in within_small false d.result.value d.result.count (digits_within false _ d.result d.ensures)
+high-requires c = let d = c.read_digits-group in within_small Hexadecimal d.result.value d.result.count (digits_within Hexadecimal _ d.result d.ensures)
 
 pub returns-in-Bad : goal.returns-in-Bad
 returns-in-Bad c = rw (rw c.in-Bad.is at (group_turn c.loop-k.invariant c.loop-k-test.true c.read_digits-group.result c.read_digits-group.ensures c.high.result c.low.result c.high.ensures c.low.ensures c.follows_at.result c.follows_at.ensures)) (c.no_groups.ensures _)

@@ -1,4 +1,4 @@
-use Rattle.std.proofs.Common.{◌≡◌, ℕ, suc, ◌+◌, ◌-◌, ◌%◌, ◌<◌, ◌≤◌, max, Bool, true, false, cond, ◌&&◌, leb, List, length, get_or, drop, refl, ◌∙◌, add-one, arith, drop_of_length-le, drop-cons, rules, le-leb, leb-false, leb-true}
+use Rattle.std.proofs.Common.{◌≡◌, ℕ, suc, ◌+◌, ◌%◌, ◌<◌, ◌≤◌, max, Bool, true, false, cond, ◌&&◌, leb, List, length, get_or, drop, refl, ◌∙◌, add-one, arith, drop_of_length-le, drop-cons, le-leb, leb-false, leb-true}
 use borrow.Author.Tests.{lt-leb}
 use Rattle.protocol.specs.Host.{allowed, all_allowed}
 use Rattle.address_text.proofs.host.all_allowed.Goals as goal
@@ -28,15 +28,14 @@ and_true : (a : Bool) → a ≡ (a && true)
 and_true true = refl
 and_true false = refl
 
-pub loop-i-init : goal.loop-i-init
-loop-i-init c = refl
-
-pub loop-i-preserved : goal.loop-i-preserved
-loop-i-preserved c =
-    let l = c.loop-i in
-    let d = c.wrapping_sub_u8 in
-    rw c.higher-top.ensures (turn c.args.host.now l.top d.result l.i c.loop-i-test.true (search rules) d.ensures.value ∙ l.invariant)
+pub loop-b-preserved : goal.loop-b-preserved
+loop-b-preserved c =
+    let l = c.loop-b in
+    let b = get_or c.args.host.now l.b-index 0 in
+    let f : b < 256 = omega (arith, c.type_inv.host l.b-index) in
+    let e : ((b + 223) % 256 + 0x21) % 256 ≡ b = omega arith in
+    rw c.max-top.ensures (turn c.args.host.now l.top ((b + 223) % 256) l.b-index c.loop-b-test.true (omega arith) e ∙ l.invariant)
 
 pub returns : goal.returns
 unfolding all_allowed
-returns c = and_true (leb c.loop-i.top 0x5D) ∙ (rw (drop_of_length-le _ c.loop-i-test.false) at c.loop-i.invariant)
+returns c = and_true (leb c.loop-b.top 0x5D) ∙ (rw (drop_of_length-le _ c.loop-b-test.false) at c.loop-b.invariant)

@@ -1,7 +1,8 @@
-use Rattle.std.proofs.Common.{◌≡◌, ◌-◌, true, [], ◌∷◌, ◌++◌, take, arith, eq-eqb, ne_eqb}
+use Rattle.std.proofs.Common.{◌≡◌, [], ◌∷◌, ◌++◌, take, arith, eq-eqb, ne_eqb}
 use mathlib.Core.Option.{none, some}
 use Rattle.protocol.specs.AddressReading.{ipv4_of}
 use Rattle.address_text.proofs.ipv4.Texts.{four_stored}
+use Rattle.address_text.specs.declared.digits.Radix.TheVariants.{Decimal}
 use Rattle.address_text.proofs.digits.Runs.{digits_within}
 use Rattle.address_text.proofs.ipv4.Dots.{no_numbers, dot_turn, dots_end}
 use Rattle.address_text.proofs.ipv4.read_ipv4.Goals as goal
@@ -13,7 +14,7 @@ pub returns-then-not-mark_at : goal.returns-then-not-mark_at
 returns-then-not-mark_at c = rw (rw c.if-not-mark_at.true at (dot_turn c.loop-k.invariant c.read_digits-number.result c.read_digits-number.ensures c.loop-k-test.true c.mark_at.result c.mark_at.ensures)) c.no_address.ensures
 
 pub overflow_cast-bytes : goal.overflow_cast-bytes
-overflow_cast-bytes c = let h = digits_within true _ c.read_digits-number.result c.read_digits-number.ensures in omega arith
+overflow_cast-bytes c = let h = digits_within Decimal _ c.read_digits-number.result c.read_digits-number.ensures in omega arith
 
 pub overflow_add-at : goal.overflow_add-at
 overflow_add-at c = let h = (rw c.if-not-mark_at.false at (dot_turn c.loop-k.invariant c.read_digits-number.result c.read_digits-number.ensures c.loop-k-test.true c.mark_at.result c.mark_at.ensures)).inside in omega arith
@@ -35,7 +36,7 @@ returns-then-number-rest c =
 pub overflow_cast-bytes-2 : goal.overflow_cast-bytes-2
 overflow_cast-bytes-2 c =
     let d = c.read_digits-number-2 in
-    let h = digits_within true _ d.result d.ensures in
+    let h = digits_within Decimal _ d.result d.ensures in
     omega arith
 
 pub returns : goal.returns

@@ -1,11 +1,9 @@
-use Prim.Native.Nat.{◌-◌}
-use lib.ListN.{length}
-use Rattle.captures.specs.Coded.{way}
+use Rattle.captures.specs.Coded.{size}
 use Rattle.captures.proofs.alike.Laws.{Beside}
 use Rattle.captures.proofs.alike.same_way.Given as goal
 
-abbrev pub invariant-loop-a : goal.invariant-loop-a
-invariant-loop-a l = Beside (way l.received) l.first l.second l.a l.b
+abbrev pub invariant-loop-byte : goal.invariant-loop-byte
+invariant-loop-byte l = Beside l.direction l.first l.second l.a.bytes.now l.a.behind.now l.b.bytes.now l.b.behind.now
 
-abbrev pub decreases-loop-a : goal.decreases-loop-a
-decreases-loop-a l = length l.first - l.a.at
+abbrev pub decreases-loop-byte : goal.decreases-loop-byte
+decreases-loop-byte l = size l.a.bytes.now l.a.behind.now

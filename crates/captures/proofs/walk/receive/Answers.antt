@@ -1,10 +1,18 @@
-use Rattle.captures.proofs.walk.Laws.{received_over, received_taken}
+use Prim.Native.Nat.{◌-◌}
+use borrow.Rule.Slice.PartMut.{same_len_mid}
+use Rattle.captures.proofs.walk.Laws.{received_part, received_whole}
 use Rattle.captures.proofs.walk.receive.Goals as goal
 
-pub returns-then-from-gt-REQUESTS : goal.returns-then-from-gt-REQUESTS
-returns-then-from-gt-REQUESTS c =
-    received_over c.args.course c.args.piece.now c.args.due.now c.requires.0 c.if-from-gt-REQUESTS.true
+pub returns-then-delivered-piece : goal.returns-then-delivered-piece
+returns-then-delivered-piece c =
+    let a = c.args in
+    received_part a.course a.piece.now a.due.now c.requires c.told-due c.if-from-gt-REQUESTS.false _ c.deliver-delivered.ensures
+    (same_len_mid a.course.due (1802 - a.course.due) a.due.now c.deliver-delivered.new.out c.deliver-delivered.auto.out)
+    c.if-delivered-piece.true
 
 pub returns : goal.returns
 returns c =
-    received_taken c.args.course c.args.piece.now c.args.due.now c.requires.0 c.requires.1 c.if-from-gt-REQUESTS.false _ c.deliver-delivered.ensures c.due-1.given.1
+    let a = c.args in
+    received_whole a.course a.piece.now a.due.now c.requires c.told-due c.if-from-gt-REQUESTS.false _ c.deliver-delivered.ensures
+    (same_len_mid a.course.due (1802 - a.course.due) a.due.now c.deliver-delivered.new.out c.deliver-delivered.auto.out)
+    c.if-delivered-piece.false

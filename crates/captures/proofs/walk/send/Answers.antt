@@ -1,11 +1,13 @@
-use mathlib.Core.Path.{refl}
-use Rattle.captures.proofs.walk.Laws.{sent_short, sent_held}
+use mathlib.Core.Path.{sym}
+use Rattle.captures.proofs.walk.Laws.{sent_other, sent_next}
 use Rattle.captures.proofs.walk.send.Goals as goal
 
-pub returns-then-course-from : goal.returns-then-course-from
-returns-then-course-from c =
-    sent_short c.args.course c.args.piece.now c.args.due.now c.requires c.if-course-from.true
+pub returns-then-not-starts_with : goal.returns-then-not-starts_with
+returns-then-not-starts_with c =
+    let a = c.args in
+    sent_other a.course a.piece.now a.due.now c.requires (sym c.starts_with.ensures.value) c.if-not-starts_with.true
 
 pub returns : goal.returns
 returns c =
-    sent_held c.args.course c.args.piece.now c.args.due.now c.requires _ refl c.if-course-from.false c.same.ensures
+    let a = c.args in
+    sent_next a.course a.piece.now a.due.now c.requires (sym c.starts_with.ensures.value) c.if-not-starts_with.false

@@ -1,15 +1,5 @@
-use mathlib.Core.Path.{refl, sym}
-use native.Mathlib.Omega.{arith}
-use lib.ListN.{length-take}
-use lib.Seq.{length-take-le}
 use Rattle.client_delivery.proofs.bound_address.Laws.{address_is}
 use Rattle.client_delivery.proofs.bound_address.address.Goals as goal
 
-pub slice_bounds-copy-end-2 : goal.slice_bounds-copy-end-2
-slice_bounds-copy-end-2 c = let e = c.least-n.ensures in sym (length-take-le _ _ (omega arith))
-
-pub copy-requires : goal.copy-requires
-copy-requires c = let e = c.least-n.ensures in omega (arith, length-take c.least-n.result c.args.held.now)
-
 pub returns : goal.returns
-returns c = let a = c.args in address_is a.bound a.held.now c.least-n.ensures refl c.copy.ensures
+returns c = address_is c.args.bound c.args.held.now c.min-n.ensures c.copy_from_slice.ensures.after

@@ -1,32 +1,27 @@
-use native.Mathlib.Omega.{arith}
-use mathlib.Core.Path.{ap}
-use mathlib.Core.List.{◌++◌}
-use lib.ListN.{length-append}
-use Rattle.client_delivery.specs.declared.turns.Turn.{Turn}
-use Rattle.client_delivery.proofs.turns.Turning.{loops_first, loops_on, loops_break, loops_end, still_small}
+use Rattle.std.proofs.Common.{◌≤◌, ◌++◌, ap, arith, length, drop, length-append}
+use Rattle.client_stages.specs.due.Due.{still_due}
+use Rattle.client_delivery.proofs.turns.Turning.{still_small, loops_first, loops_on, loops_undecided, rank_none, loops_settled}
 use Rattle.client_delivery.proofs.turns.work.Goals as goal
 
-pub loop-left-init : goal.loop-left-init
-loop-left-init c =
-    let a = c.args in
-    loops_first a.lengths a.reply (a.held.now ++ a.piece.now) c.first-turn.ensures
+pub loop-init : goal.loop-init
+loop-init c = loops_first c.args.lengths c.args.reply (c.args.held.now ++ c.args.piece.now)
 
-pub next-turn-requires : goal.next-turn-requires
-next-turn-requires c =
-    let a = c.args in
-    let g = c.loop-left.invariant.going in
-    let i = g.inside in
-    (omega (arith, i, length-append a.held.now a.piece.now), omega (arith, g.room, still_small c.loop-left.invariant.reply), omega (arith, c.loop-left.invariant.most))
+pub read-requires : goal.read-requires
+read-requires c =
+    let v = c.loop.invariant in
+    let g = v.going in
+    (omega (arith, g.inside, length-append c.args.held.now c.args.piece.now), omega (arith, g.room, ap still_due c.in-Awaiting.is, still_small c.args.reply), omega (arith, v.most))
 
-pub loop-left-preserved : goal.loop-left-preserved
-loop-left-preserved c = loops_on c.loop-left.invariant c.next-turn.ensures c.if-turn.true
+pub loop-preserved : goal.loop-preserved
+loop-preserved c = loops_on c.loop.invariant c.in-Awaiting.is c.read.ensures.read c.in-Some.is (omega arith)
 
-pub returns-after-loop-left : goal.returns-after-loop-left
-returns-after-loop-left c =
-    let a = c.args in
-    loops_end a.reply (ap (λ (t : Turn). t.stage) c.first-turn.ensures) c.loop-left.invariant (let t = c.loop-left-test.false in omega arith)
+pub returns-after-loop : goal.returns-after-loop
+returns-after-loop c = let v = c.loop.invariant in loops_settled v (omega (arith, v.ends, c.loop-test.false))
 
-pub returns-else-turn : goal.returns-else-turn
-returns-else-turn c =
-    let a = c.args in
-    loops_break a.reply (ap (λ (t : Turn). t.stage) c.first-turn.ensures) c.loop-left.invariant c.next-turn.ensures c.if-turn.false
+pub returns-in_default : goal.returns-in_default
+returns-in_default c = let v = c.loop.invariant in loops_settled v (rank_none c.loop.turn.stage c.in_default.not-Awaiting)
+
+pub returns-in_default-read : goal.returns-in_default-read
+returns-in_default-read c =
+    let few : length (drop c.loop.turn.place (c.args.held.now ++ c.args.piece.now)) ≤ 261 = let f = c.read.ensures.few in rw c.in_default-read.is at f in
+    loops_undecided c.loop.invariant c.in-Awaiting.is c.read.ensures.read c.in_default-read.is few

@@ -1,5 +1,5 @@
-use native.Mathlib.Omega.{arith}
-use Rattle.client_delivery.proofs.wants.Ways.{shortest_method, shortest_authentication, shortest_proxy, shortest_response}
+use Rattle.std.proofs.Common.{arith}
+use Rattle.client_delivery.proofs.wants.Ways.{shortest_method, shortest_authentication, shortest_last}
 use Rattle.client_delivery.proofs.wants.shortest.Goals as goal
 
 pub returns-in-NegotiationRes : goal.returns-in-NegotiationRes
@@ -9,7 +9,4 @@ pub returns-in-AuthenticationRes : goal.returns-in-AuthenticationRes
 returns-in-AuthenticationRes c = (rw c.in-AuthenticationRes.is shortest_authentication, omega arith)
 
 pub returns-in-ProxyRes : goal.returns-in-ProxyRes
-returns-in-ProxyRes c = (rw c.in-ProxyRes.is shortest_proxy, omega arith)
-
-pub returns-in-Response : goal.returns-in-Response
-returns-in-Response c = (rw c.in-Response.is shortest_response, omega arith)
+returns-in-ProxyRes c = (shortest_last c.args.reply c.in-ProxyRes.is, omega arith)

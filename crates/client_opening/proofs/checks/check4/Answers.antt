@@ -1,8 +1,15 @@
-use Rattle.lookup.specs.Chosen.{records_of}
-use Rattle.client_opening.proofs.checks.Laws.{checked4}
+use mathlib.Core.Path.{sym, ◌∙◌}
+use Rattle.std.proofs.Common.{rules}
+use Rattle.protocol.specs.Opening.{is_name, refuse}
+use Rattle.protocol.specs.Requests.{kind_of}
+use Rattle.protocol.specs.Answers.{Accepted}
+use Rattle.protocol.specs.declared.SocksError.TheVariants.{AnnouncesName}
+use mathlib.Core.List.{[]}
+use Rattle.client_opening.proofs.checks.Laws.{stops}
 use Rattle.client_opening.proofs.checks.check4.Goals as goal
 
-pub returns : goal.returns
-returns c =
+pub returns-in_err-check_name : goal.returns-in_err-check_name
+returns-in_err-check_name c =
     let a = c.args in
-    checked4 a.text.now a.kind a.port (records_of a.chosen) c.is_name.ensures a.local_dns a.announcing c.refuse_if-last.ensures c.finds_no_four.ensures c.check_name-named.ensures c.is_ipv6.ensures c.refuse_if-own.ensures c.check_shared.ensures
+    let z = stops (is_name (kind_of a.kind [])) a.text.now 1014 a.local_dns a.none (refuse a.announcing AnnouncesName Accepted) {x = c.in_err-check_name.field-0.0} (sym c.check_name.ensures ∙ c.in_err-check_name.was) in
+    search rules

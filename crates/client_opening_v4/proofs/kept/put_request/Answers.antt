@@ -1,7 +1,7 @@
 use Prim.Native.Nat.{ℕ, ◌+◌, ◌≤◌}
 use native.Mathlib.Omega.{arith}
 use mathlib.Core.Path.{sym}
-use Rattle.client_opening.proofs.common.Targets.{four_long, four_size}
+use Rattle.client_opening.proofs.common.Targets.{four_size}
 use Rattle.client_opening_v4.proofs.kept.Keeping.{four, named, asks}
 use borrow.Author.Rules.{rules}
 use Rattle.client_opening_v4.proofs.kept.put_request.Goals as goal
@@ -11,9 +11,6 @@ address_room h = omega arith
 
 name_room : {n room : ℕ} → n ≤ 1014 → 1024 ≤ room → 0 + (n + 10) ≤ room
 name_room h k = omega arith
-
-pub slice_bounds-ip-end : goal.slice_bounds-ip-end
-slice_bounds-ip-end c = four_long (search rules)
 
 pub slice_bounds-put_address-end : goal.slice_bounds-put_address-end
 slice_bounds-put_address-end c =

@@ -1,5 +1,5 @@
 use mathlib.Core.Path.{◌∙◌}
-use borrow.Author.Rules.{rules}
+use Rattle.std.proofs.Common.{rules}
 use Rattle.client_opening.proofs.common.Records.{by_list4}
 use Rattle.client_opening_v4.proofs.opening.prepare.Goals as goal
 
@@ -7,4 +7,5 @@ pub returns : goal.returns
 returns c =
     let a = c.args in
     let e = c.read_host-read.ensures in
-    c.prepare_read.ensures e ∙ by_list4 a.local_dns a.host.now a.port a.records.now c.wanted4-most.result c.choose-chosen.result (search rules) (c.wanted4-most.ensures e) c.choose-chosen.ensures
+    let l = c.looks_up.ensures e in
+    c.prepare_read.ensures e ∙ by_list4 a.local_dns a.host.now a.port a.records.now _ (search rules)

@@ -3,7 +3,7 @@ use native.Mathlib.Omega.{arith}
 use mathlib.Core.Path.{◌≡◌}
 use mathlib.Core.List.{List}
 use lib.ListN.{length, take, length-take}
-use Rattle.client_opening.proofs.common.Targets.{four_long, four_size}
+use Rattle.client_opening.proofs.common.Targets.{four_size}
 use Rattle.client_opening_v5.proofs.kept.Keeping.{proxy_room, four, six, named, asks}
 use borrow.Author.Rules.{rules}
 use Rattle.client_opening_v5.proofs.kept.put_proxy.Goals as goal
@@ -13,9 +13,6 @@ four_small bs = omega (arith, length-take 4 bs)
 
 six_small : {n : ℕ} → n ≡ 16 → n ≤ 255
 six_small l = omega arith
-
-pub slice_bounds-ip-end : goal.slice_bounds-ip-end
-slice_bounds-ip-end c = four_long (search rules)
 
 pub slice_bounds-put_proxy_req-end : goal.slice_bounds-put_proxy_req-end
 slice_bounds-put_proxy_req-end c = four_size c.args.asked.bytes (search rules)

@@ -1,4 +1,5 @@
 use mathlib.Core.Path.{◌∙◌}
+use Rattle.std.proofs.Common.{rules}
 use Rattle.client_opening.proofs.common.Records.{by_list5}
 use Rattle.client_opening_v5.proofs.opening.prepare.Goals as goal
 
@@ -6,4 +7,5 @@ pub returns : goal.returns
 returns c =
     let a = c.args in
     let e = c.read_host-read.ensures in
-    c.prepare_read.ensures e ∙ by_list5 a.config a.host.now a.port a.user.now a.password.now a.records.now c.wanted5-most.result c.choose-chosen.result (c.wanted5-most.ensures e) c.choose-chosen.ensures
+    let l = c.looks_up.ensures e in
+    c.prepare_read.ensures e ∙ by_list5 a.config a.host.now a.port a.user.now a.password.now a.records.now _ (search rules)

@@ -1,16 +1,21 @@
-use Rattle.std.proofs.Common.{◌≡◌, ◌^◌, ◌<◌, length, rules}
-use Rattle.client_session.proofs.Deliveries.{delivers}
-use Rattle.client_session.proofs.Session.deliver.Goals.{Start}
+use Rattle.std.proofs.Common.{rules, refl, sym, ap, ◌∙◌}
+use Rattle.protocol.specs.Answers as code
+use Rattle.client_session.proofs.Deliveries.{taken_by, taken_within, delivers_by}
 use Rattle.client_session.proofs.Session.deliver.Goals as goal
+use Rattle.client_session.proofs.Session.deliver.Goals.{in-Ok, in-Err}
 
-attempts_small : (c : Start) → c.args.self.attempts < 2 ^ 64
-attempts_small c = search rules
-
-bytes_long : (c : Start) → length c.args.self.requests.bytes ≡ 1024
-bytes_long c = search rules
+pub send-requires : goal.send-requires
+send-requires c =
+    let s = c.args.self in
+    taken_within s c.args.piece.now c.args.out.now c.receive.ensures (search rules) c.receive.ensures.bounds (elim c.match-receive.branch [
+      | in-Ok w ↦ w.answer-is ∙ sym (ap (taken_by s) w.in-Ok.is)
+      | in-Err w ↦ w.answer-is ∙ (λ i. (code.Refused w.in-Err.error, w.unchanged.ensures i)) ∙ sym (ap (taken_by s) w.in-Err.is)
+    ])
 
 pub returns : goal.returns
 returns c =
-    let start = c.before.before.before.before.before.before.before.before.before.before.before.before.before.before.before.before.before in
-    let a = start.args in
-    delivers a.self a.piece.now a.out.now c.receive-received.ensures (attempts_small start) c.wrapping_add_u64.ensures.value (bytes_long start) c.send.ensures
+    let s = c.args.self in
+    delivers_by s c.args.piece.now c.args.out.now c.receive.ensures (search rules) (elim c.match-receive.branch [
+      | in-Ok w ↦ w.answer-is ∙ sym (ap (taken_by s) w.in-Ok.is)
+      | in-Err w ↦ w.answer-is ∙ (λ i. (code.Refused w.in-Err.error, w.unchanged.ensures i)) ∙ sym (ap (taken_by s) w.in-Err.is)
+    ]) refl (search rules) c.send.ensures

@@ -6,4 +6,4 @@ use Rattle.endings.proofs.Checks.{opened_check}
 use Rattle.endings.proofs.routes.check.Goals as goal
 
 pub returns : goal.returns
-returns c = ap (λ (o : Opened). o.answer) c.open-opened.ensures.returned ∙ opened_check _ _ (length-replicate {A = ℕ} 8192 0)
+returns c = ap (λ (o : Opened). o.answer) c.«open».ensures.returned ∙ opened_check _ _ (length-replicate {A = ℕ} 8192 0)

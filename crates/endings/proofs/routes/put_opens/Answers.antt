@@ -1,29 +1,37 @@
-use borrow.Author.Rules.{rules}
 use native.Mathlib.Omega.{arith}
-use mathlib.Core.Path.{◌≡◌}
-use lib.ListN.{length}
+use mathlib.Core.List.{List}
+use Prim.Native.Nat.{ℕ}
+use mathlib.Core.Path.{◌≡◌, subst, ◌∙◌, ap}
+use lib.ListN.{take}
+use Rattle.std.proofs.lemmas.List.{take_all}
+use Rattle.route_session.specs.declared.plan.Proxy.{Proxy}
+use Rattle.endings.specs.Coded.{opens}
+use Rattle.endings_spec.specs.Streams.{open_stream}
+use Rattle.buffers.specs.write.Written.{Wrote}
 use Rattle.buffers.proofs.write.Laws.{wrote_length}
 use Rattle.endings.proofs.routes.Laws.{nothing, more}
 use Rattle.endings.proofs.routes.put_opens.Goals as goal
 
-pub loop-i-init : goal.loop-i-init
-loop-i-init c = (search rules, (search rules, nothing _))
+pub loop-proxy-init : goal.loop-proxy-init
+loop-proxy-init c = record { few = omega arith; wrote = nothing _ }
 
-pub put_open-at-requires : goal.put_open-at-requires
-put_open-at-requires c =
-    omega (arith, wrote_length c.loop-i.invariant.1.1, c.loop-i.invariant.1.0, c.loop-i-test.true, c.requires.0, c.requires.1)
+pub copy-at-requires : goal.copy-at-requires
+copy-at-requires c = omega (arith, c.as_slice.ensures.few, wrote_length c.loop-proxy.invariant.wrote, c.told-out)
 
-pub loop-i-preserved : goal.loop-i-preserved
-loop-i-preserved c =
-    let t = c.loop-i-test.true in
-    let p = c.put_open-at.ensures in
-    (omega (arith, t), (omega (arith, c.loop-i.invariant.1.0, p.upper_bound), more c.args.proxies c.loop-i.i _ (let h : length c.args.proxies ≡ 8 = search rules in omega (arith, h, t, c.requires.0)) c.loop-i.invariant.1.1 p.wrote))
-
-pub shape_of-out : goal.shape_of-out
-shape_of-out c = wrote_length c.loop-i.invariant.1.1
+pub loop-proxy-preserved : goal.loop-proxy-preserved
+loop-proxy-preserved c =
+    let e = c.as_slice.ensures.same ∙ c.open_stream-word.ensures ∙ ap open_stream c.kind_by.ensures in
+    record {
+      few = omega (arith, c.copy-at.ensures.place, c.as_slice.ensures.few, c.loop-proxy.invariant.few);
+      wrote = more c.args.proxies.now c.loop-proxy.proxy-index _ c.loop-proxy-test.true c.loop-proxy.invariant.wrote (subst (λ (l : List ℕ). Wrote c.loop-proxy.out c.loop-proxy.at l c.copy-at.result c.copy-at.new.out) e c.copy-at.ensures);
+    }
 
 pub returns : goal.returns
 returns c =
-    let e : c.loop-i.i ≡ c.args.n = omega (arith, c.loop-i.invariant.0, c.loop-i-test.false) in
-    let i = c.loop-i.invariant.1 in
-    rw (← e) (record { upper_bound = i.0; wrote = i.1 })
+    let ps = c.args.proxies.now in
+    let i = c.loop-proxy.invariant in
+    let t : take c.loop-proxy.proxy-index ps ≡ ps = take_all c.loop-proxy.proxy-index ps c.loop-proxy-test.false in
+    record {
+      upper_bound = omega (arith, i.few, c.loop-proxy.auto.proxy-index-end);
+      wrote = subst (λ (l : List Proxy). Wrote c.args.out.now 0 (opens l) c.loop-proxy.at c.loop-proxy.out) t i.wrote;
+    }

@@ -11,7 +11,7 @@ pub came_to-taken-requires : goal.came_to-taken-requires
 came_to-taken-requires c =
     let a = c.args in
     let w = c.work_at-turn.ensures in
-    let n = c.least-n in
+    let n = c.min-n in
     let l = hold_long a.s.now c.requires.0 in
     let m = least_small a.held n.ensures in
     (l, m, w.spans, place_inside n.result (take 1014 (drop 15 a.s.now)) a.piece.now l m _ w.inside, w.rests, w.ready)
@@ -23,4 +23,4 @@ pub returns : goal.returns
 returns c =
     let a = c.args in
     let p = c.requires in
-    leaves_decided a.s.now a.piece.now a.out.now (λ i. omega (arith, c.slice_known-1.given i)) p.0 refl (awaits_some _ _ a.field p.2) a.field p.2 p.1 (λ e. omega (arith, p.4)) (c.least-n.ensures ∙ ap (λ (k : ℕ). min k 1014) p.3) c.work_at-turn.ensures (rw c.bound_at-bound.ensures at c.came_to-taken.ensures) (c.s-1.given.0 ∙ hold_long a.s.now p.0) refl c.settle.ensures
+    leaves_decided a.s.now a.piece.now a.out.now (λ i. omega (arith, c.slice_known-1.given i)) p.0 refl (awaits_some _ _ a.field p.2) a.field p.2 p.1 (λ e. omega (arith, p.4)) (c.min-n.ensures ∙ ap (λ (k : ℕ). min k 1014) p.3) c.work_at-turn.ensures (rw c.bound_at-bound.ensures at c.came_to-taken.ensures) (c.s-1.given.0 ∙ hold_long a.s.now p.0) refl c.settle.ensures

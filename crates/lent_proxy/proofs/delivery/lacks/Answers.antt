@@ -1,67 +1,61 @@
-use Prim.Native.Nat.{◌/◌, ◌%◌}
-use mathlib.Core.Path.{refl, sym, ◌∙◌}
-use mathlib.Core.Bool.{true≢false}
-use mathlib.Core.List.{◌++◌}
+use Rattle.std.proofs.Common.{refl, sym, ◌∙◌, ◌/◌, ◌%◌, ◌++◌}
 use Rattle.lent_proxy.specs.State.{field_of, ports_of}
-use Rattle.lent_proxy.proofs.delivery.Texts.{lacks_by, lacks_address, lacks_request, lacks_user_id, lacks_name}
+use Rattle.lent_proxy.proofs.delivery.Texts.{untold, lacks_by, lacks_address, lacks_request, lacks_user_id, lacks_name}
 use Rattle.lent_proxy.proofs.delivery.lacks.Goals as goal
 
-pub returns-then-n-eq2 : goal.returns-then-n-eq2
+pub returns-in-2 : goal.returns-in-2
 unfolding field_of
-returns-then-n-eq2 c e =
+returns-in-2 c e =
     let a = c.args in
-    lacks_by a.n 2 a.kept (a.held.now ++ a.piece.now) c.if-n-eq2.true refl (sym c.read_methods.ensures ∙ c.is_undecided.ensures e)
+    lacks_by a.n 2 a.kept (a.held.now ++ a.piece.now) c.in-2.is refl (sym (rw c.new-bytes.ensures at c.read_methods.ensures) ∙ untold c.read_methods.result c.is_none.ensures e)
 
-pub returns-then-n-eq3 : goal.returns-then-n-eq3
+pub returns-in-3 : goal.returns-in-3
 unfolding field_of
-returns-then-n-eq3 c e =
+returns-in-3 c e =
     let a = c.args in
-    lacks_by a.n 3 a.kept (a.held.now ++ a.piece.now) c.if-n-eq3.true refl (sym c.read_user.ensures ∙ c.is_undecided-then-n-eq3.ensures e)
+    lacks_by a.n 3 a.kept (a.held.now ++ a.piece.now) c.in-3.is refl (sym (rw c.new-bytes.ensures at c.read_user.ensures) ∙ untold c.read_user.result c.is_none-in-3.ensures e)
 
-pub returns-then-n-eq4 : goal.returns-then-n-eq4
+pub returns-in-4 : goal.returns-in-4
 unfolding field_of
-returns-then-n-eq4 c e =
+returns-in-4 c e =
     let a = c.args in
-    lacks_by a.n 4 a.kept (a.held.now ++ a.piece.now) c.if-n-eq4.true refl (sym c.read_password.ensures ∙ c.is_undecided-then-n-eq4.ensures e)
+    lacks_by a.n 4 a.kept (a.held.now ++ a.piece.now) c.in-4.is refl (sym (rw c.new-bytes.ensures at c.read_password.ensures) ∙ untold c.read_password.result c.is_none-in-4.ensures e)
 
-pub returns-then-n-eq5 : goal.returns-then-n-eq5
+pub returns-in-5 : goal.returns-in-5
 unfolding field_of
-returns-then-n-eq5 c e =
+returns-in-5 c e =
     let a = c.args in
-    lacks_by a.n 5 a.kept (a.held.now ++ a.piece.now) c.if-n-eq5.true refl (sym c.read_password-then-n-eq5.ensures ∙ c.is_undecided-then-n-eq5.ensures e)
+    lacks_by a.n 5 a.kept (a.held.now ++ a.piece.now) c.in-5.is refl (sym (rw c.new-bytes.ensures at c.read_password-in-5.ensures) ∙ untold c.read_password-in-5.result c.is_none-in-5.ensures e)
 
-pub returns-then-n-eq6 : goal.returns-then-n-eq6
+pub returns-in-6 : goal.returns-in-6
 unfolding field_of
-returns-then-n-eq6 c e =
+returns-in-6 c e =
     let a = c.args in
-    lacks_by a.n 6 a.kept (a.held.now ++ a.piece.now) c.if-n-eq6.true refl (sym c.read_head.ensures ∙ c.is_undecided-then-n-eq6.ensures e)
+    lacks_by a.n 6 a.kept (a.held.now ++ a.piece.now) c.in-6.is refl (sym (rw c.new-bytes.ensures at c.read_head.ensures) ∙ untold c.read_head.result c.is_none-in-6.ensures e)
 
-pub returns-then-n-eq7 : goal.returns-then-n-eq7
+pub returns-in-7 : goal.returns-in-7
 unfolding field_of
-returns-then-n-eq7 c e =
-    let a = c.args in
-    let bs = a.held.now ++ a.piece.now in
-    lacks_by a.n 7 a.kept bs c.if-n-eq7.true refl (lacks_address (a.kept % 256) (a.kept / 256 % 256) bs c.low.ensures c.read_address.ensures (c.is_undecided-then-n-eq7.ensures e))
-
-pub returns-then-n-eq8 : goal.returns-then-n-eq8
-unfolding field_of
-returns-then-n-eq8 c e =
-    let a = c.args in
-    lacks_by a.n 8 a.kept (a.held.now ++ a.piece.now) c.if-n-eq8.true refl (lacks_request a.held.now a.piece.now e)
-
-pub returns-then-n-eq9 : goal.returns-then-n-eq9
-unfolding field_of
-returns-then-n-eq9 c e =
+returns-in-7 c e =
     let a = c.args in
     let bs = a.held.now ++ a.piece.now in
-    lacks_by a.n 9 a.kept bs c.if-n-eq9.true refl (lacks_user_id (ports_of a.kept) bs (c.goes_on.ensures e))
+    lacks_by a.n 7 a.kept bs c.in-7.is refl (lacks_address (a.kept % 256) (a.kept / 256 % 256) bs c.low.ensures (rw c.new-bytes.ensures at c.read_address.ensures) (untold c.read_address.result c.is_none-in-7.ensures e))
 
-pub returns-then-n-eq10 : goal.returns-then-n-eq10
+pub returns-in-8 : goal.returns-in-8
 unfolding field_of
-returns-then-n-eq10 c e =
+returns-in-8 c e =
+    let a = c.args in
+    lacks_by a.n 8 a.kept (a.held.now ++ a.piece.now) c.in-8.is refl (lacks_request a.held.now a.piece.now e)
+
+pub returns-in-9 : goal.returns-in-9
+unfolding field_of
+returns-in-9 c e =
     let a = c.args in
     let bs = a.held.now ++ a.piece.now in
-    lacks_by a.n 10 a.kept bs c.if-n-eq10.true refl (lacks_name (ports_of a.kept) bs (c.goes_on-then-n-eq10.ensures e))
+    lacks_by a.n 9 a.kept bs c.in-9.is refl (lacks_user_id (ports_of a.kept) bs (c.goes_on.ensures e))
 
-pub returns : goal.returns
-returns c e = absurd (true≢false (sym e))
+pub returns-in-10 : goal.returns-in-10
+unfolding field_of
+returns-in-10 c e =
+    let a = c.args in
+    let bs = a.held.now ++ a.piece.now in
+    lacks_by a.n 10 a.kept bs c.in-10.is refl (lacks_name (ports_of a.kept) bs (c.goes_on-in-10.ensures e))

@@ -10,4 +10,4 @@ work-requires c = (zero-le, room_said c.args.field c.args.out.now (omega (arith,
 pub returns : goal.returns
 returns c =
     let a = c.args in
-    worked_at a.s.now a.piece.now a.out.now a.field a.held c.requires.0 (λ i. omega (arith, c.shared_slice_known-1.given i)) c.requires.1 c.authenticates_at-authenticates.ensures c.text_at-user.ensures c.text_at-password.ensures c.work.ensures
+    worked_at a.s.now a.piece.now a.out.now a.field a.held c.requires.0 (λ i. omega (arith, c.shared_slice_known-1.given i)) c.requires.1 c.authenticates_at-authenticates.ensures c.text_at-user.ensures c.text_at-password.ensures (rw c.new-unread.ensures at c.work.ensures)

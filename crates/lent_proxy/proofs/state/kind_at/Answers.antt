@@ -1,15 +1,16 @@
-use borrow.Author.Tests.{eq-eqb, ne_eqb}
+use Rattle.std.proofs.Common.{arith}
+use Rattle.std.proofs.lemmas.Bool.Decides.{nat_tests}
 use Rattle.lent_proxy.specs.State.{kind_at}
 use Rattle.lent_proxy.proofs.state.kind_at.Goals as goal
 
-pub returns-then-code-eq1 : goal.returns-then-code-eq1
+pub returns-in-1 : goal.returns-in-1
 unfolding kind_at
-returns-then-code-eq1 c = simp (eq-eqb _ _ c.if-code-eq1.true)
+returns-in-1 c = grind (arith, nat_tests, c.in-1.is)
 
-pub returns-then-code-eq2 : goal.returns-then-code-eq2
+pub returns-in-2 : goal.returns-in-2
 unfolding kind_at
-returns-then-code-eq2 c = simp (ne_eqb _ _ c.if-code-eq1.false, eq-eqb _ _ c.if-code-eq2.true)
+returns-in-2 c = grind (arith, nat_tests, c.in-2.is)
 
-pub returns : goal.returns
+pub returns-in_default : goal.returns-in_default
 unfolding kind_at
-returns c = simp (ne_eqb _ _ c.if-code-eq1.false, ne_eqb _ _ c.if-code-eq2.false)
+returns-in_default c = grind (arith, nat_tests)

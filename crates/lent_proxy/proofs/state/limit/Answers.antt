@@ -1,27 +1,24 @@
-use borrow.Author.Tests.{eq-eqb, ne_eqb}
+use Rattle.std.proofs.Common.{arith}
+use Rattle.std.proofs.lemmas.Bool.Decides.{nat_tests}
 use Rattle.lent_proxy.specs.State.{limit}
 use Rattle.lent_proxy.proofs.state.limit.Goals as goal
 
-pub returns-then-n-eq0 : goal.returns-then-n-eq0
+pub returns-in-0 : goal.returns-in-0
 unfolding limit
-returns-then-n-eq0 c = simp (eq-eqb _ _ c.if-n-eq0.true)
+returns-in-0 c = grind (arith, nat_tests, c.in-0.is)
 
-pub returns-then-n-eq7 : goal.returns-then-n-eq7
+pub returns-in-7 : goal.returns-in-7
 unfolding limit
-returns-then-n-eq7 c = simp (ne_eqb _ _ c.if-n-eq0.false, eq-eqb _ _ c.if-n-eq7.true)
+returns-in-7 c = grind (arith, nat_tests, c.in-7.is)
 
-pub returns-then-n-eq9 : goal.returns-then-n-eq9
+pub returns-in-9 : goal.returns-in-9
 unfolding limit
-returns-then-n-eq9 c = simp (ne_eqb _ _ c.if-n-eq0.false, ne_eqb _ _ c.if-n-eq7.false, eq-eqb _ _ c.if-n-eq9.true)
+returns-in-9 c = grind (arith, nat_tests)
 
-pub returns-then-n-eq10 : goal.returns-then-n-eq10
+pub returns-in_default : goal.returns-in_default
 unfolding limit
-returns-then-n-eq10 c = simp (ne_eqb _ _ c.if-n-eq0.false, ne_eqb _ _ c.if-n-eq7.false, ne_eqb _ _ c.if-n-eq9.false, eq-eqb _ _ c.if-n-eq10.true)
+returns-in_default c = grind (arith, nat_tests)
 
-pub returns-then-n-eq15 : goal.returns-then-n-eq15
+pub returns-in_default-2 : goal.returns-in_default-2
 unfolding limit
-returns-then-n-eq15 c = simp (ne_eqb _ _ c.if-n-eq0.false, ne_eqb _ _ c.if-n-eq7.false, ne_eqb _ _ c.if-n-eq9.false, ne_eqb _ _ c.if-n-eq10.false, eq-eqb _ _ c.if-n-eq15.true)
-
-pub returns : goal.returns
-unfolding limit
-returns c = simp (ne_eqb _ _ c.if-n-eq0.false, ne_eqb _ _ c.if-n-eq7.false, ne_eqb _ _ c.if-n-eq9.false, ne_eqb _ _ c.if-n-eq10.false, ne_eqb _ _ c.if-n-eq15.false)
+returns-in_default-2 c = grind (arith, nat_tests)

@@ -1,31 +1,28 @@
-use borrow.Author.Tests.{le-leb, lt-leb, eq-eqb, ne_eqb}
+use Rattle.std.proofs.Common.{arith}
+use Rattle.std.proofs.lemmas.Bool.Decides.{nat_tests}
 use Rattle.lent_proxy.specs.State.{stage_of}
 use Rattle.lent_proxy.proofs.state.stage_of.Goals as goal
 
-pub returns-then-n-eq0 : goal.returns-then-n-eq0
+pub returns-in-1-to-10 : goal.returns-in-1-to-10
 unfolding stage_of
-returns-then-n-eq0 c = simp (eq-eqb _ _ c.if-n-eq0.true, ← c.low.ensures, ← c.low-then-n-eq0.ensures, ← c.error_of.ensures)
+returns-in-1-to-10 c = grind (arith, nat_tests, c.field_of.ensures)
 
-pub returns-then-n-le10 : goal.returns-then-n-le10
+pub returns-in-11 : goal.returns-in-11
 unfolding stage_of
-returns-then-n-le10 c = simp (ne_eqb _ _ c.if-n-eq0.false, le-leb _ _ c.if-n-le10.true, ← c.field_of.ensures)
+returns-in-11 c = grind (arith, nat_tests, c.in-11.is)
 
-pub returns-then-n-eq11 : goal.returns-then-n-eq11
+pub returns-in-12 : goal.returns-in-12
 unfolding stage_of
-returns-then-n-eq11 c = simp (ne_eqb _ _ c.if-n-eq0.false, lt-leb _ _ c.if-n-le10.false, eq-eqb _ _ c.if-n-eq11.true)
+returns-in-12 c = grind (arith, nat_tests, c.in-12.is)
 
-pub returns-then-n-eq12 : goal.returns-then-n-eq12
+pub returns-in-13 : goal.returns-in-13
 unfolding stage_of
-returns-then-n-eq12 c = simp (ne_eqb _ _ c.if-n-eq0.false, lt-leb _ _ c.if-n-le10.false, ne_eqb _ _ c.if-n-eq11.false, eq-eqb _ _ c.if-n-eq12.true)
+returns-in-13 c = grind (arith, nat_tests, c.in-13.is)
 
-pub returns-then-n-eq13 : goal.returns-then-n-eq13
+pub returns-in-14 : goal.returns-in-14
 unfolding stage_of
-returns-then-n-eq13 c = simp (ne_eqb _ _ c.if-n-eq0.false, lt-leb _ _ c.if-n-le10.false, ne_eqb _ _ c.if-n-eq11.false, ne_eqb _ _ c.if-n-eq12.false, eq-eqb _ _ c.if-n-eq13.true)
+returns-in-14 c = grind (arith, nat_tests, c.in-14.is)
 
-pub returns-then-n-eq14 : goal.returns-then-n-eq14
+pub returns-in_default : goal.returns-in_default
 unfolding stage_of
-returns-then-n-eq14 c = simp (ne_eqb _ _ c.if-n-eq0.false, lt-leb _ _ c.if-n-le10.false, ne_eqb _ _ c.if-n-eq11.false, ne_eqb _ _ c.if-n-eq12.false, ne_eqb _ _ c.if-n-eq13.false, eq-eqb _ _ c.if-n-eq14.true)
-
-pub returns : goal.returns
-unfolding stage_of
-returns c = simp (ne_eqb _ _ c.if-n-eq0.false, lt-leb _ _ c.if-n-le10.false, ne_eqb _ _ c.if-n-eq11.false, ne_eqb _ _ c.if-n-eq12.false, ne_eqb _ _ c.if-n-eq13.false, ne_eqb _ _ c.if-n-eq14.false, ← c.low-2.ensures, ← c.low-3.ensures, ← c.error_of-2.ensures)
+returns-in_default c = grind (arith, nat_tests, c.error_of.ensures, c.low.ensures, c.low-in_default.ensures)

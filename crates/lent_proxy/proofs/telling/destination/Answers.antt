@@ -9,7 +9,7 @@ pub returns-then-has_destination : goal.returns-then-has_destination
 returns-then-has_destination c =
     let s = c.args.s.now in
     let h = stage_told s c.eight_at-kept.ensures c.stage_at.ensures c.stage_of.ensures c.has_destination.ensures in
-    c.target_of.ensures ∙ ap target_of (c.as_target.ensures ∙ destination_told s c.requires h c.if-has_destination.true c.bound_at.ensures c.least-end.ensures c.two_at.ensures.0)
+    c.target_of.ensures ∙ ap target_of (c.as_target.ensures ∙ destination_told s c.requires h c.if-has_destination.true c.bound_at.ensures c.min-end.ensures c.two_at.ensures.0)
 
 pub returns : goal.returns
 returns c =

@@ -14,12 +14,6 @@ use Rattle.lent_route.proofs.delivery.is_short.Goals as goal
 pub returns-then-len-eq0 : goal.returns-then-len-eq0
 returns-then-len-eq0 c = λ q. absurd (true≢false (sym q))
 
-pub returns-then-count-gt-PROXIES : goal.returns-then-count-gt-PROXIES
-returns-then-count-gt-PROXIES c = λ q. absurd (true≢false (sym q))
-
-pub returns-then-count-two_at : goal.returns-then-count-two_at
-returns-then-count-two_at c = λ q. absurd (true≢false (sym q))
-
 pub slice_bounds-is_held-end : goal.slice_bounds-is_held-end
 slice_bounds-is_held-end c = sym (first_long c.args.s.now c.requires)
 

@@ -14,8 +14,8 @@ use Rattle.lent_route.proofs.delivery.settle.Goals as goal
 pub slice_bounds-lengths_at-end-2 : goal.slice_bounds-lengths_at-end-2
 slice_bounds-lengths_at-end-2 c = sym (first_long c.args.s.now c.requires.0)
 
-pub lengths_at-lengths-requires : goal.lengths_at-lengths-requires
-lengths_at-lengths-requires c = first_long c.args.s.now c.requires.0
+pub lengths_at-requires : goal.lengths_at-requires
+lengths_at-requires c = first_long c.args.s.now c.requires.0
 
 pub returns : goal.returns
 returns c =
@@ -23,13 +23,13 @@ returns c =
     let s = a.s.now in
     let q = a.reached in
     let u = c.put_spoken.ensures in
-    let e = c.lengths_at-lengths.ensures ∙ ap (λ (x : Session). x.requests.lengths) (prefix s (omega (arith, c.requires.0))) in
+    let e = c.lengths_at.ensures ∙ ap (λ (x : Session). x.requests.lengths) (prefix s (omega (arith, c.requires.0))) in
     record {
       returned = λ i. record {
         used = q.used;
         sent = q.spot.sent;
         answer = 0;
-        outcome = (c.outcome_of.ensures ∙ ap outcome_of (c.outcome-outcome.ensures q.spot.bound (take q.spot.held a.hold.now)) ∙ sym (told_is q.spot.stage q.spot.bound (take q.spot.held a.hold.now))) i;
+        outcome = (c.outcome_of.ensures ∙ ap outcome_of (c.outcome.ensures q.spot.bound (take q.spot.held a.hold.now)) ∙ sym (told_is q.spot.stage q.spot.bound (take q.spot.held a.hold.now))) i;
       };
       left = u.0 ∙ ap (λ (l : Lengths). state_of (spoken_at q.spot (record { optimistic = l.optimistic; first = l.first; authentication = q.spot.behind; proxy = l.proxy }) a.hold.now (drop 282 s))) e;
       tries = u.1.0;

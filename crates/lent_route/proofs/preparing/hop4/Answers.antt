@@ -1,4 +1,5 @@
 use mathlib.Core.Bool.{false}
+use Rattle.std.specs.Prelude.{None}
 use Rattle.lent_route.specs.Calls.{asked4}
 use Rattle.client_opening_v4.proofs.opening.Preparing.{prepares4}
 use Rattle.lent_route.proofs.preparing.Hopping.{asks4}
@@ -38,5 +39,5 @@ returns c =
     let t = v.ensures.taken z in
     let g = c.begin-begun in
     let k : length c.begin-begun.new.bytes ≡ 1024 = search rules in
-    let q = asks4 a.host.now a.port c.port_of.ensures c.none_found.ensures (prepares4 false a.host.now c.read_host.result c.port_of.result c.none_found.result c.read_host.ensures refl g.ensures) in
+    let q = asks4 a.host.now a.port c.port_of.ensures (prepares4 false a.host.now c.read_host.result c.port_of.result None c.read_host.ensures refl g.ensures) in
     hops_on (asked4 a.host.now a.port) g.result g.new.bytes q s v.ensures z k (twice s (346 + 1024 * (7 - v.result.count)) (omega (arith, c.requires, t.1.1.0)) t.1.1.1 g.new.bytes k) c.keep.ensures

@@ -3,6 +3,7 @@ use mathlib.Core.Path.{◌≡◌, refl, ◌∙◌}
 use Prim.Native.Nat.{◌+◌, ◌-◌, ◌*◌}
 use lib.ListN.{length}
 use mathlib.Core.Bool.{false}
+use Rattle.std.specs.Prelude.{None}
 use Rattle.lent_route.specs.Calls.{asked5}
 use Rattle.client_opening_v5.proofs.opening.Preparing.{prepares5}
 use Rattle.lent_route.proofs.preparing.Hopping.{lent_zeros, twice, twice_long, hops_on, asks5}
@@ -37,6 +38,6 @@ returns c =
     let t = v.ensures.taken z in
     let g = c.begin-begun in
     let k : length c.begin-begun.new.bytes ≡ 1024 = search rules in
-    let q = asks5 a.config a.host.now a.port a.user.now a.password.now c.truth.ensures c.truth-2.ensures c.port_of.ensures c.none_found.ensures
-    (prepares5 (record { proxy_auth = c.truth.result; local_dns = false; optimistic = c.truth-2.result }) a.host.now c.read_host.result c.port_of.result a.user.now a.password.now c.none_found.result c.read_host.ensures refl g.ensures) in
+    let q = asks5 a.config a.host.now a.port a.user.now a.password.now c.truth.ensures c.truth-2.ensures c.port_of.ensures
+    (prepares5 (record { proxy_auth = c.truth.result; local_dns = false; optimistic = c.truth-2.result }) a.host.now c.read_host.result c.port_of.result a.user.now a.password.now None c.read_host.ensures refl g.ensures) in
     hops_on (asked5 a.config a.host.now a.port a.user.now a.password.now) g.result g.new.bytes q s v.ensures z k (twice s (346 + 1024 * (7 - v.result.count)) (omega (arith, c.requires, t.1.1.0)) t.1.1.1 g.new.bytes k) c.keep.ensures

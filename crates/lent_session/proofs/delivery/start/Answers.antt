@@ -1,9 +1,10 @@
 use Rattle.std.proofs.Common.{sym, ◌∙◌, arith}
 use Rattle.protocol.specs.Bytes.{Bytes}
 use Rattle.protocol.specs.declared.SocksError.TheVariants.{Settled, OutOfOrder}
+use Rattle.client_stages.proofs.start.Laws.{first_within}
 use Rattle.lent_session.specs.State.{session_at}
 use Rattle.lent_session.proofs.Codes.{awaited_some}
-use Rattle.lent_session.proofs.delivery.Leaving.{refuses, start_settled, start_again, first_small, code_room, start_leaves}
+use Rattle.lent_session.proofs.delivery.Leaving.{refuses, start_settled, start_again, code_room, start_leaves}
 use Rattle.lent_session.proofs.delivery.start.Goals as goal
 
 pub returns-then-n-eq0 : goal.returns-then-n-eq0
@@ -18,7 +19,7 @@ returns-then-is_started c =
 pub send-requires : goal.send-requires
 send-requires c =
     let p = c.requires in
-    let h = first_small c.lengths_at.result c.reply_of.result in
+    let h = first_within c.lengths_at.result c.reply_of.result in
     let m = c.first_size-m.ensures in
     (p.0, omega (arith, h, m), omega (arith, h, m, p.1))
 

@@ -10,4 +10,4 @@ returns-then-stage_at-ne7 c = let x = session_at c.args.s.now in c.unbound.ensur
 pub returns : goal.returns
 returns c =
     let s = c.args.s.now in
-    c.address.ensures ∙ bound_held s c.requires (open_by (session_at s).stage c.stage_at.ensures c.if-stage_at-ne7.false) c.two_at.ensures.0 c.least-n.ensures c.bound_at.ensures
+    c.address.ensures ∙ bound_held s c.requires (open_by (session_at s).stage c.stage_at.ensures c.if-stage_at-ne7.false) c.two_at.ensures.0 c.min-n.ensures c.bound_at.ensures

@@ -1,4 +1,3 @@
-use mathlib.Core.List.{◌++◌}
 use Rattle.proxy_decisions.proofs.destination.Laws.{told_name, told_address, no_other}
 use Rattle.proxy_decisions.proofs.destination.find.Goals as goal
 
@@ -14,5 +13,5 @@ find_address-requires c = told_address _ _ _ _ c.in-Address.is c.requires
 pub returns-in-Address : goal.returns-in-Address
 returns-in-Address c = rw c.in-Address.is c.find_address.ensures
 
-pub returns : goal.returns
-returns c = absurd (no_other c.args.field (c.args.held.now ++ c.args.piece.now) c.requires c.in_default.not-Name c.in_default-field.not-Address)
+pub returns-in_default : goal.returns-in_default
+returns-in_default c = absurd (no_other c.args.field c.args.bytes.now c.requires c.in_default.not-Name c.in_default.not-Address)

@@ -1,20 +1,24 @@
 use native.Mathlib.Omega.{arith}
-use Prim.Native.Nat.{◌-◌}
+use lib.ListN.{take, length-append}
+use lib.Seq.{length-take-le}
 use Rattle.buffers.proofs.hold.Laws.{found_inside}
-use Rattle.proxy_decisions.proofs.destination.Laws.{cut, found_in}
+use Rattle.proxy_decisions.proofs.destination.Laws.{found_in}
 use Rattle.proxy_decisions.proofs.destination.keep_told.Goals as goal
 
-pub find-found-requires : goal.find-found-requires
-find-found-requires c =
+pub part-requires : goal.part-requires
+part-requires c =
     let a = c.args in
     let p = c.requires in
-    rw (cut a.hold.now a.piece.now a.n a.begin a.end c.least-a.result c.least-c.result (omega arith) p.2 c.least-a.ensures c.least-c.ensures) p.4
+    (p.2, rw c.new-unread.ensures (omega (arith, length-append (take a.n a.hold.now) a.piece.now, length-take-le a.n a.hold.now (omega arith))))
+
+pub find-found-requires : goal.find-found-requires
+find-found-requires c = rw (c.part.ensures, c.new-unread.ensures) c.requires.4
 
 pub keep_found-requires : goal.keep_found-requires
 keep_found-requires c =
     let a = c.args in
     let p = c.requires in
-    let f = found_in a.field a.hold.now a.piece.now a.n a.begin a.end c.least-a.result c.least-c.result (omega arith) p.2 p.3 c.least-a.ensures c.least-c.ensures c.find-found.ensures in
+    let f = found_in a.field a.hold.now a.piece.now a.n a.begin a.end (omega arith) p.2 p.3 (rw (c.part.ensures, c.new-unread.ensures) at c.find-found.ensures) in
     let s = f.small in
     (omega arith, omega arith, found_inside a.hold.now a.piece.now a.n a.begin (omega arith) f (omega arith))
 
@@ -22,4 +26,4 @@ pub returns : goal.returns
 returns c =
     let a = c.args in
     let p = c.requires in
-    c.keep_found.ensures _ _ (found_in a.field a.hold.now a.piece.now a.n a.begin a.end c.least-a.result c.least-c.result (omega arith) p.2 p.3 c.least-a.ensures c.least-c.ensures c.find-found.ensures)
+    c.keep_found.ensures _ _ (found_in a.field a.hold.now a.piece.now a.n a.begin a.end (omega arith) p.2 p.3 (rw (c.part.ensures, c.new-unread.ensures) at c.find-found.ensures))

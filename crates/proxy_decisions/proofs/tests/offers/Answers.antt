@@ -1,25 +1,19 @@
-use mathlib.Core.Path.{refl, ◌∙◌}
-use Prim.Native.Nat.{◌-◌}
-use Rattle.proxy_decisions.proofs.tests.Loops.{offers_here, offers_on, offers_none}
+use mathlib.Core.Path.{◌≡◌, refl, ap, ◌∙◌}
+use mathlib.Core.Bool.{Bool, ◌||◌}
+use mathlib.Core.List.{List, [], ◌∷◌}
+use Prim.Native.Nat.{ℕ}
+use lib.ListN.{drop}
+use lib.Dec.{eqb}
+use Rattle.std.specs.List.{list_any}
+use Rattle.proxy_spec.specs.End.{offers}
 use Rattle.proxy_decisions.proofs.tests.offers.Goals as goal
 
-pub loop-i-init : goal.loop-i-init
-loop-i-init c = (refl, refl)
-
-pub returns-then-byte-method : goal.returns-then-byte-method
-returns-then-byte-method c =
-    let a = c.args in
-    let l = c.loop-i in
-    offers_here a.method a.held.now a.piece.now l.i c.loop-i-test.true c.byte.ensures c.if-byte-method.true ∙ l.invariant.1
-
-pub loop-i-preserved : goal.loop-i-preserved
-loop-i-preserved c =
-    let a = c.args in
-    let l = c.loop-i in
-    (refl, offers_on a.method a.held.now a.piece.now l.i c.loop-i-test.true c.byte.ensures c.if-byte-method.false ∙ l.invariant.1)
+any_offers : (m : ℕ) (xs : List ℕ) → list_any (λ x. eqb x m) xs ≡ offers m xs
+unfolding offers
+any_offers m [] = refl
+any_offers m (x ∷ xs) = ap (λ (b : Bool). eqb x m || b) (any_offers m xs)
 
 pub returns : goal.returns
 returns c =
     let a = c.args in
-    let l = c.loop-i in
-    offers_none a.method a.held.now a.piece.now l.i c.loop-i-test.false ∙ l.invariant.1
+    c.contains.ensures ∙ ap (list_any (λ x. eqb x a.method)) c.behind.ensures.rest ∙ any_offers a.method (drop 1 a.bytes.now)

@@ -8,4 +8,4 @@ use Rattle.proxy_delivery.proofs.piece.asks.Goals as goal
 pub returns : goal.returns
 returns c =
     let a = c.args in
-    asks_as (asks_at a.turn.last (last_in a.turn (take a.n a.hold.now ++ a.piece.now))) a.turn.stage a.turn.sent a.turn.place a.n c.keep-kept.ensures c.least.ensures
+    asks_as (asks_at a.turn.last (last_in a.turn (take a.n a.hold.now ++ a.piece.now))) a.turn.stage a.turn.sent c.keep-kept.ensures c.saturating_sub.ensures

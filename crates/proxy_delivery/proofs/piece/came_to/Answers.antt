@@ -3,7 +3,7 @@ use mathlib.Core.List.{◌++◌}
 use lib.ListN.{take}
 use Rattle.proxy_decisions.specs.decision.Due.{asks_at}
 use Rattle.proxy_delivery.specs.turns.Turns.{last_in}
-use Rattle.proxy_delivery.proofs.piece.Keeping.{held_long, unread_few, rests_few, ready_asked, ready_open, keeps_waits, keeps_asks, keeps_failed}
+use Rattle.proxy_delivery.proofs.piece.Keeping.{held_long, unread_few, rests_few, ready_asked, keeps_waits, keeps_asks, keeps_over}
 use Rattle.proxy_delivery.proofs.piece.came_to.Goals as goal
 
 pub waits-requires : goal.waits-requires
@@ -30,11 +30,8 @@ returns-in-Asked c =
     keeps_asks a.turn.place h a.piece.now a.hold.now (held_long a.n a.hold.now a.piece.now p.0 p.1) p.3 (asks_at a.turn.last (last_in a.turn (h ++ a.piece.now))) c.in-Asked.is c.asks.ensures
 
 pub returns-in-Open : goal.returns-in-Open
-returns-in-Open c = absurd (ready_open _ _ c.in-Open.is c.requires.5)
-
-pub returns-in-Failed : goal.returns-in-Failed
-returns-in-Failed c =
+returns-in-Open c =
     let a = c.args in
     let p = c.requires in
     let h = take a.n a.hold.now in
-    keeps_failed a.turn.place h a.piece.now a.hold.now (held_long a.n a.hold.now a.piece.now p.0 p.1) p.3 (asks_at a.turn.last (last_in a.turn (h ++ a.piece.now))) c.in-Failed.is c.failed-in-Failed.ensures refl
+    keeps_over a.turn.place h a.piece.now a.hold.now (held_long a.n a.hold.now a.piece.now p.0 p.1) p.3 (asks_at a.turn.last (last_in a.turn (h ++ a.piece.now))) c.in-Open.is _ _ p.5 c.failed.ensures refl

@@ -1,9 +1,7 @@
-use Prim.Native.Nat.{◌≤◌}
-use mathlib.Core.List.{◌++◌}
-use lib.ListN.{length, length-append}
-use Rattle.proxy_delivery.proofs.turns.Laws.{stepping}
 use native.Mathlib.Omega.{arith}
+use lib.ListN.{length}
 use Rattle.proxy_decisions.proofs.decision.Laws.{rank_bounds}
+use Rattle.proxy_delivery.proofs.turns.Laws.{stepping}
 use Rattle.proxy_delivery.proofs.turns.step_good.Goals as goal
 
 pub put-behind-requires : goal.put-behind-requires
@@ -15,7 +13,6 @@ pub returns : goal.returns
 returns c =
     let a = c.args in
     let r = c.requires in
-    let due = c.judge_at-due in
+    let due = c.judge-due in
     let said = c.put-behind in
-    let h : a.begin ≤ length (a.held.now ++ a.piece.now) = omega (arith, length-append a.held.now a.piece.now, r.begin_le_place) in
-    stepping a.place h r.begin_le_place.0 r.piece_value due.result due.ensures said.result said.ensures c.awaited-then.result c.awaited-then.ensures
+    stepping a.place (omega (arith, r.begin_le_place)) r.begin_le_place.0 r.piece_value due.result (rw c.part.ensures at due.ensures) said.result said.ensures c.awaited.result c.awaited.ensures

@@ -1,60 +1,38 @@
 use native.Mathlib.Omega.{arith}
-use Prim.Native.Nat.{ℕ, ◌+◌, ◌-◌, ◌≤◌, ◌<◌, ◌^◌}
-use mathlib.Core.Path.{◌≡◌, ap, ◌∙◌}
-use mathlib.Core.List.{◌++◌}
-use lib.ListN.{length, length-append}
-use Rattle.protocol.specs.declared.Verdict.TheVariants.{Good}
-use Rattle.protocol.specs.Bytes.{Bytes}
-use Rattle.protocol.proofs.Bytes.{bytes_join}
-use Rattle.proxy_delivery.proofs.turns.Laws.{told_undecided, told_decided, within_at, waits_worked, fails_worked, stopped}
-use Rattle.talk.specs.Decision.{decided, good}
-use borrow.Author.Rules.{rules}
+use mathlib.Core.Path.{sym}
+use Rattle.protocol.specs.Answers.{Good, Bad}
+use Rattle.proxy_delivery.proofs.turns.Laws.{told_decided, within_at, waits_worked, fails_worked, stopped}
+use Rattle.talk.specs.Decision.{good, bad}
 use Rattle.proxy_delivery.proofs.turns.take_turn.Goals as goal
 
 pub overflow_add-place : goal.overflow_add-place
 overflow_add-place c =
     let a = c.args in
-    let b = a.held.now ++ a.piece.now in
-    let w : a.place ≤ length b = omega (arith, length-append a.held.now a.piece.now, c.requires) in
-    let f : length a.held.now + length a.piece.now < 2 ^ 64 = search rules in
-    let e = told_decided c.in-Decided.n _ Good c.read_at.ensures c.in-Decided.is c.in-Good.is in
-    record { fits = omega (arith, f, length-append a.held.now a.piece.now, within_at (record { authenticates = a.authenticates; user = a.user.now; password = a.password.now }) a.field b a.place c.in-Decided.n good w e) }
+    let w = c.in-Some-default-Ok in
+    let i = within_at a.credentials.now a.field a.unread.now a.place w.n good c.requires.0 (rw (← c.behind.ensures.rest) (told_decided w.n _ Good c.read_field.ensures w.is w.field-0-1-is)) in
+    record { fits = omega (arith, c.behind.ensures.fits) }
 
-pub step_good-requires : goal.step_good-requires
-step_good-requires c =
+pub step_good-requires-clause-begin_le_place : goal.step_good-requires-clause-begin_le_place
+step_good-requires-clause-begin_le_place c =
     let a = c.args in
-    let b = a.held.now ++ a.piece.now in
-    let w : a.place ≤ length b = omega (arith, length-append a.held.now a.piece.now, c.requires) in
-    let n = c.in-Decided.n in
-    let e = told_decided n _ Good c.read_at.ensures c.in-Decided.is c.in-Good.is in
-    let k : n ≡ a.place + n - a.place = omega arith in
-    let i = within_at (record { authenticates = a.authenticates; user = a.user.now; password = a.password.now }) a.field b a.place n good w e in
-    record { begin_le_place = (omega arith, (omega (arith, i, length-append a.held.now a.piece.now), c.requires.1)); piece_value = e ∙ ap (λ (i : ℕ). decided i good) k }
+    let w = c.in-Some-default-Ok in
+    let i = within_at a.credentials.now a.field a.unread.now a.place w.n good c.requires.0 (rw (← c.behind.ensures.rest) (told_decided w.n _ Good c.read_field.ensures w.is w.field-0-1-is)) in
+    (omega arith, (i, c.requires.1))
 
-pub overflow_add-place-in-Bad : goal.overflow_add-place-in-Bad
-overflow_add-place-in-Bad c =
+pub overflow_add-failed : goal.overflow_add-failed
+overflow_add-failed c =
     let a = c.args in
-    let b = a.held.now ++ a.piece.now in
-    let w : a.place ≤ length b = omega (arith, length-append a.held.now a.piece.now, c.requires) in
-    let f : length a.held.now + length a.piece.now < 2 ^ 64 = search rules in
-    let e = told_decided c.in-Decided.n _ _ c.read_at.ensures c.in-Decided.is c.in-Bad.is in
-    record { fits = omega (arith, f, length-append a.held.now a.piece.now, within_at (record { authenticates = a.authenticates; user = a.user.now; password = a.password.now }) a.field b a.place c.in-Decided.n _ w e) }
+    let w = c.in-Some-default-Err in
+    let i = within_at a.credentials.now a.field a.unread.now a.place w.n (bad w.error) c.requires.0 (rw (← c.behind.ensures.rest) (told_decided w.n _ (Bad w.error) c.read_field.ensures w.is w.field-0-1-is)) in
+    record { fits = omega (arith, c.behind.ensures.fits) }
 
-pub returns-in-Undecided : goal.returns-in-Undecided
-returns-in-Undecided c =
+pub returns-in-None : goal.returns-in-None
+returns-in-None c =
     let a = c.args in
-    let b = a.held.now ++ a.piece.now in
-    let w : a.place ≤ length b = omega (arith, length-append a.held.now a.piece.now, c.requires) in
-    let r : a.sent ≤ length a.out.now = omega (arith, c.requires) in
-    let y : Bytes b = bytes_join a.held.now a.piece.now (λ i. let h = c.type_inv.held i in omega arith) (λ i. let h = c.type_inv.piece i in omega arith) in
-    let e = told_undecided c.read_at.ensures c.in-Undecided.is in
-    stopped _ a.field c.stops.ensures (waits_worked _ a.field b a.place a.out.now a.sent w y r e)
+    stopped _ (waits_worked a.credentials.now a.field a.unread.now a.place a.out.now a.sent c.requires.0 c.behind.ensures.bytes (omega (arith, c.requires)) (rw (← c.behind.ensures.rest) (sym c.in-None.ensures)))
 
-pub returns-in-Bad : goal.returns-in-Bad
-returns-in-Bad c =
+pub returns-in-Some-default-Err : goal.returns-in-Some-default-Err
+returns-in-Some-default-Err c =
     let a = c.args in
-    let b = a.held.now ++ a.piece.now in
-    let w : a.place ≤ length b = omega (arith, length-append a.held.now a.piece.now, c.requires) in
-    let r : a.sent ≤ length a.out.now = omega (arith, c.requires) in
-    let e = told_decided c.in-Decided.n _ _ c.read_at.ensures c.in-Decided.is c.in-Bad.is in
-    stopped _ a.field c.stops-in-Bad.ensures (fails_worked _ a.field b a.place a.out.now a.sent w _ _ r e)
+    let w = c.in-Some-default-Err in
+    stopped _ (fails_worked a.credentials.now a.field a.unread.now a.place a.out.now a.sent c.requires.0 w.n w.error (omega (arith, c.requires)) (rw (← c.behind.ensures.rest) (told_decided w.n _ (Bad w.error) c.read_field.ensures w.is w.field-0-1-is)))

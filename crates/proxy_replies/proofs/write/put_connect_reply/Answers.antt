@@ -1,14 +1,8 @@
 use mathlib.Core.Path.{◌≡◌, refl}
 use lib.ListN.{length}
-use Rattle.proxy_replies.proofs.write.Laws.{within, counted, address_room, port_room, connect_written}
+use Rattle.proxy_replies.proofs.write.Laws.{counted, address_room, port_room, connect_written}
 use borrow.Author.Rules.{rules}
 use Rattle.proxy_replies.proofs.write.put_connect_reply.Goals as goal
-
-pub slice_bounds-address-end : goal.slice_bounds-address-end
-slice_bounds-address-end c =
-    let b = c.args.bound in
-    let l : length b.address ≡ 16 = search rules in
-    within b.family b.address l c.size_of-n.ensures
 
 pub slice_bounds-copy-end : goal.slice_bounds-copy-end
 slice_bounds-copy-end c =

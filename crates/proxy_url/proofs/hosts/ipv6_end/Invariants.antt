@@ -1,5 +1,5 @@
 use mathlib.Core.Path.{◌≡◌}
-use Prim.Native.Nat.{◌-◌, min}
+use Prim.Native.Nat.{min}
 use lib.ListN.{length}
 use Rattle.proxy_url_spec.specs.Reading.{ipv6_goes_on, ipv6_end}
 use Rattle.proxy_url.proofs.hosts.Laws.{along_from}
@@ -7,6 +7,3 @@ use Rattle.proxy_url.proofs.hosts.ipv6_end.Given as goal
 
 abbrev pub invariant-loop-n : goal.invariant-loop-n
 invariant-loop-n l = (l.end ≡ min (length l.text) 45) × (along_from ipv6_goes_on 45 l.text l.n ≡ ipv6_end l.text)
-
-abbrev pub decreases-loop-n : goal.decreases-loop-n
-decreases-loop-n l = l.end - l.n

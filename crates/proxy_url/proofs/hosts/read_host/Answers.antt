@@ -14,5 +14,5 @@ slice_bounds-read_brackets-start c = let h = byte_inside c.args.text.now 0 (λ e
 pub returns-then-byte_at-eq91 : goal.returns-then-byte_at-eq91
 returns-then-byte_at-eq91 c = host_brackets c.args.text.now (sym c.byte_at.ensures ∙ c.if-byte_at-eq91.true) c.read_brackets.ensures
 
-pub returns : goal.returns
-returns c = host_name c.args.text.now (λ e. c.if-byte_at-eq91.false (c.byte_at.ensures ∙ e)) c.read_name.ensures
+pub returns-else-byte_at-eq91 : goal.returns-else-byte_at-eq91
+returns-else-byte_at-eq91 c = host_name c.args.text.now (λ e. c.if-byte_at-eq91.false (c.byte_at.ensures ∙ e)) c.read_name.ensures

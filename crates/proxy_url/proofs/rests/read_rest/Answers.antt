@@ -1,14 +1,15 @@
-use Rattle.proxy_url.proofs.rests.Laws.{plain_whole, plain_v4, with_v5, neither_v5}
+use mathlib.Core.Path.{◌≡◌, sym, ap, ◌∙◌}
+use borrow.Author.Rules.{rules}
+use Rattle.proxy_url.proofs.rests.Laws.{later, plain_whole, plain_dies, with_later}
 use Rattle.proxy_url.proofs.rests.read_rest.Goals as goal
 
-pub returns-then-endpoint : goal.returns-then-endpoint
-returns-then-endpoint c = rw c.plain.ensures (plain_whole c.args.text.now c.read_endpoint-endpoint.ensures c.args.version c.if-endpoint.true)
-
-pub returns-then-with : goal.returns-then-with
-returns-then-with c = with_v5 c.args.text.now c.read_endpoint-endpoint.ensures c.in-V5.is c.if-endpoint.false c.read_with_credentials-with.ensures c.if-with.true
+pub returns-in-Ok : goal.returns-in-Ok
+returns-in-Ok c = plain_whole c.args.text.now c.args.version (sym c.read_endpoint.ensures ∙ c.in-Ok.is)
 
 pub returns-in-V4 : goal.returns-in-V4
-returns-in-V4 c = rw c.plain-in-V4.ensures (plain_v4 c.args.text.now c.read_endpoint-endpoint.ensures c.in-V4.is)
+returns-in-V4 c = plain_dies c.args.text.now (sym c.read_endpoint.ensures ∙ c.in-Err.is) c.in-V4.is
 
-pub returns-else-with : goal.returns-else-with
-returns-else-with c = rw (c.no_rest.ensures, c.most.ensures, neither_v5 c.args.text.now c.read_endpoint-endpoint.ensures c.in-V5.is c.if-endpoint.false c.read_with_credentials-with.ensures c.if-with.false)
+pub returns-in-V5 : goal.returns-in-V5
+returns-in-V5 c =
+    let m : c.map_err.result ≡ later c.in-Err.place c.read_with_credentials.result = search rules in
+    m ∙ ap (later c.in-Err.place) c.read_with_credentials.ensures ∙ with_later c.args.text.now (sym c.read_endpoint.ensures ∙ c.in-Err.is) c.in-V5.is

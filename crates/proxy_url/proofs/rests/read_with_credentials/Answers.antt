@@ -1,43 +1,78 @@
-use Rattle.proxy_url.proofs.credentials.Laws.{credential_inside}
-use Rattle.proxy_url.proofs.rests.Laws.{user_stuck, password_inside, password_stuck, with_inside, endpoint_stuck, with_whole}
+use mathlib.Core.Path.{◌≡◌, sym, ◌∙◌}
 use borrow.Author.Rules.{rules}
+use Rattle.std.specs.Prelude.{Ok, Err}
+use Rattle.proxy_url.proofs.rests.Laws.{user_dies, user_inside, password_inside, password_dies, behind_inside, endpoint_inside, endpoint_dies, host_inside, with_whole}
 use Rattle.proxy_url.proofs.rests.read_with_credentials.Goals as goal
 
-pub slice_bounds-rest-count : goal.slice_bounds-rest-count
-slice_bounds-rest-count c = credential_inside 0x3A c.args.text.now c.read_credential-user.ensures
+pub returns-in_err-user : goal.returns-in_err-user
+returns-in_err-user c =
+    let e : c.read_credential.result ≡ Err c.in_err-user.field-0.0 = search rules in
+    let r : c.from_residual.result ≡ Err c.in_err-user.field-0.0 = search rules in
+    r ∙ user_dies c.args.text.now (sym c.read_credential.ensures ∙ e)
 
-pub slice_bounds-rest-start : goal.slice_bounds-rest-start
-slice_bounds-rest-start c = let h = credential_inside 0x3A c.args.text.now c.read_credential-user.ensures in search rules
+pub slice_bounds-behind_user-count : goal.slice_bounds-behind_user-count
+slice_bounds-behind_user-count c =
+    let e : c.read_credential.result ≡ Ok (c.in_ok-user.user, c.in_ok-user.at) = search rules in
+    user_inside c.args.text.now (sym c.read_credential.ensures ∙ e)
+
+pub slice_bounds-behind_user-start : goal.slice_bounds-behind_user-start
+slice_bounds-behind_user-start c =
+    let e : c.read_credential.result ≡ Ok (c.in_ok-user.user, c.in_ok-user.at) = search rules in
+    let h = user_inside c.args.text.now (sym c.read_credential.ensures ∙ e) in
+    search rules
+
+pub overflow_add-result : goal.overflow_add-result
+overflow_add-result c =
+    let e : c.read_credential.result ≡ Ok (c.in_ok-user.user, c.in_ok-user.at) = search rules in
+    let h = password_inside c.args.text.now (sym c.read_credential.ensures ∙ e) (sym c.read_credential-2.ensures ∙ c.in-Err.is) in
+    search rules
+
+pub returns-in-Err : goal.returns-in-Err
+returns-in-Err c =
+    let e : c.read_credential.result ≡ Ok (c.in_ok-user.user, c.in_ok-user.at) = search rules in
+    password_dies c.args.text.now (sym c.read_credential.ensures ∙ e) (sym c.read_credential-2.ensures ∙ c.in-Err.is)
 
 pub slice_bounds-read_endpoint-count : goal.slice_bounds-read_endpoint-count
-slice_bounds-read_endpoint-count c = credential_inside 0x40 _ c.read_credential-password.ensures
+slice_bounds-read_endpoint-count c =
+    let e : c.read_credential.result ≡ Ok (c.in_ok-user.user, c.in_ok-user.at) = search rules in
+    behind_inside c.args.text.now (sym c.read_credential.ensures ∙ e) (sym c.read_credential-2.ensures ∙ c.in-Ok.is)
 
 pub slice_bounds-read_endpoint-start : goal.slice_bounds-read_endpoint-start
-slice_bounds-read_endpoint-start c = let h = credential_inside 0x40 _ c.read_credential-password.ensures in search rules
+slice_bounds-read_endpoint-start c =
+    let e : c.read_credential.result ≡ Ok (c.in_ok-user.user, c.in_ok-user.at) = search rules in
+    let h = behind_inside c.args.text.now (sym c.read_credential.ensures ∙ e) (sym c.read_credential-2.ensures ∙ c.in-Ok.is) in
+    search rules
 
-pub overflow_add-next : goal.overflow_add-next
-overflow_add-next c = let h = with_inside c.args.text.now c.read_credential-user.ensures c.read_credential-password.ensures c.read_endpoint-endpoint.ensures in search rules
+pub overflow_add-result-in-Err-read_endpoint : goal.overflow_add-result-in-Err-read_endpoint
+overflow_add-result-in-Err-read_endpoint c =
+    let e : c.read_credential.result ≡ Ok (c.in_ok-user.user, c.in_ok-user.at) = search rules in
+    let h = endpoint_inside c.args.text.now (sym c.read_credential.ensures ∙ e) (sym c.read_credential-2.ensures ∙ c.in-Ok.is) (sym c.read_endpoint.ensures ∙ c.in-Err-read_endpoint.is) in
+    search rules
 
-pub overflow_add-next-then-password : goal.overflow_add-next-then-password
-overflow_add-next-then-password c = let h = with_inside c.args.text.now c.read_credential-user.ensures c.read_credential-password.ensures c.read_endpoint-endpoint.ensures in search rules
+pub overflow_add-result-in-Err-read_endpoint-2 : goal.overflow_add-result-in-Err-read_endpoint-2
+overflow_add-result-in-Err-read_endpoint-2 c =
+    let e : c.read_credential.result ≡ Ok (c.in_ok-user.user, c.in_ok-user.at) = search rules in
+    let h = endpoint_inside c.args.text.now (sym c.read_credential.ensures ∙ e) (sym c.read_credential-2.ensures ∙ c.in-Ok.is) (sym c.read_endpoint.ensures ∙ c.in-Err-read_endpoint.is) in
+    search rules
 
-pub overflow_add-behind : goal.overflow_add-behind
-overflow_add-behind c = let h = with_inside c.args.text.now c.read_credential-user.ensures c.read_credential-password.ensures c.read_endpoint-endpoint.ensures in search rules
+pub returns-in-Err-read_endpoint : goal.returns-in-Err-read_endpoint
+returns-in-Err-read_endpoint c =
+    let e : c.read_credential.result ≡ Ok (c.in_ok-user.user, c.in_ok-user.at) = search rules in
+    endpoint_dies c.args.text.now (sym c.read_credential.ensures ∙ e) (sym c.read_credential-2.ensures ∙ c.in-Ok.is) (sym c.read_endpoint.ensures ∙ c.in-Err-read_endpoint.is)
 
-pub overflow_add-at : goal.overflow_add-at
-overflow_add-at c = let h = with_inside c.args.text.now c.read_credential-user.ensures c.read_credential-password.ensures c.read_endpoint-endpoint.ensures in search rules
+pub overflow_add-host : goal.overflow_add-host
+overflow_add-host c =
+    let e : c.read_credential.result ≡ Ok (c.in_ok-user.user, c.in_ok-user.at) = search rules in
+    let h = host_inside c.args.text.now (sym c.read_credential.ensures ∙ e) (sym c.read_credential-2.ensures ∙ c.in-Ok.is) (sym c.read_endpoint.ensures ∙ c.in-Ok-read_endpoint.is) in
+    search rules
 
-pub returns-then-endpoint : goal.returns-then-endpoint
-returns-then-endpoint c = rw c.with_both.ensures (with_whole c.args.text.now c.read_credential-user.ensures c.read_credential-password.ensures c.read_endpoint-endpoint.ensures c.if-user.true c.if-password.true c.if-endpoint.true)
-
-pub returns-then-password : goal.returns-then-password
-returns-then-password c = rw (c.no_rest.ensures, endpoint_stuck c.args.text.now c.read_credential-user.ensures c.read_credential-password.ensures c.read_endpoint-endpoint.ensures c.if-user.true c.if-password.true c.if-endpoint.false)
-
-pub overflow_add-at-then-user : goal.overflow_add-at-then-user
-overflow_add-at-then-user c = let h = password_inside c.args.text.now c.read_credential-user.ensures c.read_credential-password.ensures in search rules
-
-pub returns-then-user : goal.returns-then-user
-returns-then-user c = rw (c.no_rest-then-user.ensures, password_stuck c.args.text.now c.read_credential-user.ensures c.read_credential-password.ensures c.if-user.true c.if-password.false)
+pub overflow_add-host-2 : goal.overflow_add-host-2
+overflow_add-host-2 c =
+    let e : c.read_credential.result ≡ Ok (c.in_ok-user.user, c.in_ok-user.at) = search rules in
+    let h = host_inside c.args.text.now (sym c.read_credential.ensures ∙ e) (sym c.read_credential-2.ensures ∙ c.in-Ok.is) (sym c.read_endpoint.ensures ∙ c.in-Ok-read_endpoint.is) in
+    search rules
 
 pub returns : goal.returns
-returns c = rw (c.no_rest-2.ensures, user_stuck c.args.text.now c.read_credential-user.ensures c.if-user.false)
+returns c =
+    let e : c.read_credential.result ≡ Ok (c.in_ok-user.user, c.in_ok-user.at) = search rules in
+    with_whole c.args.text.now (sym c.read_credential.ensures ∙ e) (sym c.read_credential-2.ensures ∙ c.in-Ok.is) (sym c.read_endpoint.ensures ∙ c.in-Ok-read_endpoint.is)

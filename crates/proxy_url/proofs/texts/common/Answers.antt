@@ -1,12 +1,12 @@
-use mathlib.Core.Path.{◌∙◌}
-use Prim.Native.Nat.{◌-◌}
+use mathlib.Core.Path.{◌≡◌, ◌∙◌}
 use native.Mathlib.Nat.{zero-add}
+use native.Mathlib.Omega.{arith}
 use borrow.Author.Rules.{rules}
 use Rattle.proxy_url.proofs.texts.Laws.{common_more, common_other, common_end}
 use Rattle.proxy_url.proofs.texts.common.Goals as goal
 
 pub loop-n-init : goal.loop-n-init
-loop-n-init c = (c.least-end.ensures, zero-add _)
+loop-n-init c = (c.min-end.ensures, zero-add _)
 
 pub returns-then-word-n : goal.returns-then-word-n
 returns-then-word-n c =
@@ -24,4 +24,5 @@ pub returns : goal.returns
 returns c =
     let a = c.args in
     let l = c.loop-n in
-    common_end a.word.now a.text.now l.n l.invariant.0 c.loop-n-test.false ∙ l.invariant.1
+    let e : c.min-end.result ≡ l.n = search rules in
+    e ∙ common_end a.word.now a.text.now l.n l.invariant.0 (omega arith) ∙ l.invariant.1

@@ -1,5 +1,5 @@
 use mathlib.Core.Path.{◌≡◌}
-use Prim.Native.Nat.{◌-◌, min}
+use Prim.Native.Nat.{min}
 use lib.ListN.{length}
 use Rattle.proxy_url_spec.specs.Reading.{common}
 use Rattle.proxy_url.proofs.texts.Laws.{common_from}
@@ -7,6 +7,3 @@ use Rattle.proxy_url.proofs.texts.common.Given as goal
 
 abbrev pub invariant-loop-n : goal.invariant-loop-n
 invariant-loop-n l = (l.end ≡ min (length l.word) (length l.text)) × (common_from l.word l.text l.n ≡ common l.word l.text)
-
-abbrev pub decreases-loop-n : goal.decreases-loop-n
-decreases-loop-n l = l.end - l.n

@@ -10,5 +10,5 @@ pub returns : goal.returns
 returns c =
     let a = c.args in
     subst (λ (l : List ℕ). (c.read_reply.result ≡ decide a.reply l) × (byte l 4 ≤ 255))
-    (unread_parts a.held.now a.piece.now a.place c.least-a.result c.least-a.ensures)
+    (unread_parts a.held.now a.piece.now a.place c.min-a.result c.min-a.ensures)
     c.read_reply.ensures

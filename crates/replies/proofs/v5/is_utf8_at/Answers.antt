@@ -11,6 +11,6 @@ slice_bounds-is_utf8_in_two-end-2 c = let args = c.args in omega (arith, length-
 pub returns : goal.returns
 returns c =
     let args = c.args in
-    let a = c.least-a in
-    let b = c.least-b in
+    let a = c.min-a in
+    let b = c.min-b in
     c.is_utf8_in_two.ensures ∙ ap is_utf8 (part_two args.held.now args.piece.now args.from args.to a.result b.result c.requires.0 a.ensures b.ensures)

@@ -19,11 +19,11 @@ pub is_utf8_at-requires : goal.is_utf8_at-requires
 is_utf8_at-requires c =
     let pre = c.requires in
     let inside = pre.1 c.if-atyp-ne3.false in
-    let w = c.wide.ensures in
+    let w = c.from.ensures in
     (omega arith, omega arith)
 
 pub returns : goal.returns
 returns c =
     let args = c.args in
     rw (eq-eqb args.atyp 0x03 c.if-atyp-ne3.false)
-    (part (args.held.now ++ args.piece.now) args.at c.wide.result args.len c.is_utf8_at.result c.wide.ensures c.is_utf8_at.ensures)
+    (part (args.held.now ++ args.piece.now) args.at c.from.result args.len c.is_utf8_at.result c.from.ensures c.is_utf8_at.ensures)

@@ -3,8 +3,7 @@ use mathlib.Core.List.{List, ◌++◌}
 use Prim.Native.Nat.{ℕ, ◌+◌, ◌≤◌}
 use lib.ListN.{length, take, drop}
 use Rattle.protocol.specs.Bytes.{byte}
-use Rattle.protocol.specs.declared.Verdict.{Verdict}
-use Rattle.protocol.specs.declared.Decision.TheVariants.{Decided}
+use Rattle.protocol.specs.Answers.{Verdict, Decided}
 use native.Mathlib.Omega.{arith}
 use Rattle.protocol.specs.Replies.{proxy_size, name_field, proxy_verdict, whole_at}
 use Rattle.reader.proofs.Came.{bytes_came, bytes_short}

@@ -1,21 +1,19 @@
-use mathlib.Core.Path.{◌≡◌}
-use lib.ListN.{length}
-use Rattle.requests.proofs.v4.Laws.{other_first, other_second, other_third, by_fourth}
+use native.Mathlib.Omega.{arith}
 use borrow.Author.Rules.{rules}
-use Rattle.requests.proofs.v4.announces_name.Goals.{Start}
+use Rattle.requests.proofs.v4.Laws.{announcing, silent}
 use Rattle.requests.proofs.v4.announces_name.Goals as goal
 
-sixteen : (c : Start) → length c.args.ip ≡ 16
-sixteen c = search rules
+pub returns-in-0 : goal.returns-in-0
+returns-in-0 c = announcing c.args.ip (search rules) (omega arith) (omega arith) (omega arith) (omega arith)
 
-pub returns-then-ip-eq0-3 : goal.returns-then-ip-eq0-3
-returns-then-ip-eq0-3 c = by_fourth c.args.ip (sixteen c.before.before.before) c.if-ip-eq0.true c.if-ip-eq0-2.true c.if-ip-eq0-3.true
+pub returns-in_default : goal.returns-in_default
+returns-in_default c = silent c.args.ip (search rules) (λ p q r s. omega arith)
 
-pub returns-else-ip-eq0-3 : goal.returns-else-ip-eq0-3
-returns-else-ip-eq0-3 c = other_third c.args.ip (sixteen c.before.before.before) c.if-ip-eq0.true c.if-ip-eq0-2.true c.if-ip-eq0-3.false
+pub returns-in_default-2 : goal.returns-in_default-2
+returns-in_default-2 c = silent c.args.ip (search rules) (λ p q r s. omega arith)
 
-pub returns-else-ip-eq0-2 : goal.returns-else-ip-eq0-2
-returns-else-ip-eq0-2 c = other_second c.args.ip (sixteen c.before.before) c.if-ip-eq0.true c.if-ip-eq0-2.false
+pub returns-in_default-3 : goal.returns-in_default-3
+returns-in_default-3 c = silent c.args.ip (search rules) (λ p q r s. omega arith)
 
-pub returns-else-ip-eq0 : goal.returns-else-ip-eq0
-returns-else-ip-eq0 c = other_first c.args.ip (sixteen c.before) c.if-ip-eq0.false
+pub returns-in_default-4 : goal.returns-in_default-4
+returns-in_default-4 c = silent c.args.ip (search rules) (λ p q r s. omega arith)

@@ -1,6 +1,6 @@
-use Rattle.std.proofs.Common.{◌-◌}
+use Rattle.std.proofs.Common.{length}
 use Rattle.route_session.proofs.plan.+plan.Given as goal
 
--- fewer proxies are left from the next place on
+-- fewer proxies are left behind the first
 abbrev pub decreases-plan : goal.decreases-plan
-decreases-plan l = l.count - l.at
+decreases-plan l = length l.proxies.now

@@ -5,4 +5,4 @@ use Rattle.utf8.proofs.classes.class_of.Goals as goal
 
 pub returns : goal.returns
 unfolding table
-returns c = class_at c.args.b (search rules)
+returns c = rw c.from.ensures (class_at c.args.b (search rules))

@@ -1,5 +1,0 @@
-use Rattle.buffers.proofs.write.Laws.{then}
-use Rattle.buffers.proofs.fields.put_port.Goals as goal
-
-pub returns : goal.returns
-returns c = then c.put_byte-next.ensures c.put_byte.ensures

@@ -1,7 +1,0 @@
-use Rattle.client_opening.proofs.common.recorded.Goals as goal
-
-pub returns-in-Four : goal.returns-in-Four
-returns-in-Four c = rw c.in-Four.is
-
-pub returns-in-Six : goal.returns-in-Six
-returns-in-Six c = rw c.in-Six.is

@@ -1,4 +1,0 @@
-use Rattle.client_opening_v4.proofs.opening.prepare_chosen.Goals as goal
-
-pub returns : goal.returns
-returns c = c.prepare_read.ensures c.read_host.ensures

@@ -1,4 +1,0 @@
-use Rattle.lent_route.proofs.state.error_number.Goals as goal
-
-pub returns-in-Failed : goal.returns-in-Failed
-returns-in-Failed c = rw c.in-Failed.is c.number.ensures

@@ -1,5 +1,0 @@
-use Rattle.raw_openings.proofs.Laws.{config_as}
-use Rattle.raw_openings.proofs.config_of.Goals as goal
-
-pub returns : goal.returns
-returns c = config_as c.args.raw c.truth.ensures c.truth-2.ensures c.truth-3.ensures
