@@ -7,10 +7,10 @@ fn table() -> Vec<(String, u8)> {
     let path = concat!(env!("CARGO_MANIFEST_DIR"), "/../../crates/error_numbers/src/lib.rt");
     let source = std::fs::read_to_string(path).unwrap();
     let arms = source.lines().filter_map(|line| line.trim().strip_prefix("SocksError::")?.split_once(" => "));
-    arms.map(|(pattern, value)| {
+    // the arms of `number`: those of `status` have no number
+    arms.filter_map(|(pattern, value)| {
         let name = pattern.split('(').next().unwrap().to_string();
-        let digits = value.chars().skip_while(|c| !c.is_ascii_digit()).take_while(char::is_ascii_digit);
-        (name, digits.collect::<String>().parse().unwrap())
+        Some((name, value.trim_end_matches(',').parse().ok()?))
     })
     .collect()
 }
