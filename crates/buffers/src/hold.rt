@@ -24,6 +24,16 @@ pub fn stands(kind: AddressKind, at: usize, len: usize, port: u16) -> Found
     }
 }
 
+// Moves n bytes from a place to the start. Not `copy_within`, with which the archive would need `memmove`.
+fn shift(hold: &mut [u8], from: usize, n: usize)
+    requires { from + n ≤ length hold.old }
+    ensures { hold.new ≡ overwrite hold.old 0 (take n (drop from hold.old)) }
+{
+    for i in 0..n {
+        hold[i] = hold[from + i];
+    }
+}
+
 // `hold`, `n` and `piece` stay three parameters: a struct of them would hold the `&mut`, and its clauses would be about a loan.
 
 // What is unread of the first n bytes of the hold and then a piece, kept at the hold's start. Every byte behind that stays.
@@ -36,7 +46,7 @@ pub fn keep_rest(hold: &mut [u8], n: usize, piece: &[u8], place: usize)
         return;
     }
     if 0 < place {
-        hold.copy_within(place..n, 0);
+        shift(hold, place, n - place);
     }
     copy(hold, n - place, piece);
 }

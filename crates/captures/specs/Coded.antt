@@ -1,6 +1,8 @@
 -- F-10 as the code has it: behind some entries, and what is left of a direction.
-use Rattle.std.specs.Prelude.{ℕ, ◌+◌, ◌≤◌, ◌≡◌, Bool, false, Option, None, Some, IfSome, List, ◌++◌, length, take}
+use Rattle.std.specs.Prelude.{ℕ, ◌+◌, ◌≤◌, ◌<◌, ◌^◌, ◌≡◌, Bool, true, false, Some, List, ◌++◌, length, take}
 use Rattle.client_session.specs.declared.Session.{Session}
+use Rattle.client_session.specs.Calls.{deliver, DeliverResult}
+use Rattle.client_delivery.specs.declared.piece.Taken.{Taken}
 use Rattle.captures_spec.specs.declared.Direction.{Direction}
 use Rattle.captures_spec.specs.Captures.{Entry, if, joined}
 use Rattle.captures_spec.specs.Reading.{row_of}
@@ -11,15 +13,28 @@ use Rattle.captures.specs.Walk.{passed}
 abbrev pub Within : Course → List ℕ → Type 0
 Within c due = (c.sent ≤ c.due) × (c.due ≤ length due)
 
+-- what the types of a session's fields say, which a lent session does not tell
+abbrev pub Typed : Session → Type 0
+Typed s = (s.attempts < 2 ^ 64) × (length s.requests.bytes ≡ 1024)
+
+abbrev pub Fits : Course → List ℕ → Type 0
+Fits c due = Within c due × Typed c.session
+
 -- an unlawful entry ends it
-abbrev pub carried : Option Course → List ℕ → (Session → List ℕ → ℕ → Bool) → Bool
-carried None due on = false
-carried (Some c) due on = on c.session (take c.due due) c.sent
+abbrev pub carried : Bool → Course → List ℕ → (Session → List ℕ → ℕ → Bool) → Bool
+carried false c due on = false
+carried true c due on = on c.session (take c.due due) c.sent
 
 -- a course behind an entry: what is left to do from there is what was left ahead of it
-pub record Passes (d : Direction) (bs : List ℕ) (c : Course) (due : List ℕ) (r : Option Course) (due' : List ℕ) : Type 0 where
-  pub within : IfSome r (λ c. Within c due')
-  pub on : (on : Session → List ℕ → ℕ → Bool) → passed d bs c.session (take c.due due) c.sent on ≡ carried r due' on
+pub record Passes (d : Direction) (bs : List ℕ) (c : Course) (due : List ℕ) (lawful : Bool) (c' : Course) (due' : List ℕ) : Type 0 where
+  pub within : lawful ≡ true → Fits c' due'
+  pub on : (on : Session → List ℕ → ℕ → Bool) → passed d bs c.session (take c.due due) c.sent on ≡ carried lawful c' due' on
+
+-- a delivery to a session that is lent: what `Session::deliver` returns, its session left in place
+abbrev pub Delivers : Session → List ℕ → List ℕ → Taken → Session → List ℕ → Type 0
+Delivers s bs out t s' out' =
+    let c = deliver s bs out in
+    DeliverResult c bs (record { answer = c.answer; used = t.used; sent = t.sent; session = s' }) out'
 
 -- what is left of a direction: bytes of an entry, and those of the entries behind it
 pub record Remain (d : Direction) (bytes behind bs : List ℕ) : Type 0 where

@@ -114,15 +114,13 @@ fn record_at(s: &[u8], at: usize) -> Record {
 
 // The record taken of those behind their number: the first, or the first of family four.
 pub fn chosen_at(s: &[u8], at: usize, four: bool) -> Option<Record> {
+    let mut chosen = None;
     let mut next = past(s, at, 1);
     for _ in 0..byte_at(s, at) {
-        let record = record_at(s, next);
-        if lookup::serves(four, record.family) {
-            return Some(record);
-        }
+        chosen = lookup::step(four, chosen, record_at(s, next));
         next = past(s, next, 17);
     }
-    None
+    chosen
 }
 
 // A route, with the places of its host and of the number of its proxies.

@@ -6,6 +6,7 @@ ghost use Rattle.client_stages.specs.due.Parts.{part};
 ghost use Rattle.client_delivery.specs.delivery.Received.{unchanged, ReceiveResult};
 
 use crate::piece::Taken;
+use buffers::write::copy;
 use client_stages::due::{Lengths, Requests, Stage};
 use protocol::{Bound, DELIVERY_OUTPUT_V4, HOLD, OUTPUT_V5, Reply, SocksError};
 
@@ -68,5 +69,5 @@ pub fn send(requests: &Requests, from: usize, n: usize, out: &mut [u8])
     requires { (from + n ≤ 778) × (n ≤ length out.old) }
     ensures { out.new ≡ overwrite out.old 0 (part requests.now.bytes from n) }
 {
-    out[..n].copy_from_slice(&requests.bytes[from..from + n]);
+    copy(out, 0, &requests.bytes[from..from + n]);
 }

@@ -8,7 +8,18 @@ ghost use Rattle.lookup.specs.Chosen.{records_of};
 
 use address_text::host::all_allowed;
 use buffers::fields::credentials_too_long;
-use protocol::{AddressKind, NAME_V4, NAME_V5, Record, SocksConfig, SocksError};
+use protocol::{AddressKind, Family, NAME_V4, NAME_V5, Record, SocksConfig, SocksError};
+
+// Whether the record chosen is none of family four.
+#[tactic(auto, unfolding(protocol::specs::Opening::first_four))]
+fn finds_no_four(chosen: Option<Record>) -> bool
+    ensures { result ≡ is_none (first_four (records_of chosen)) }
+{
+    match chosen {
+        None => true,
+        Some(record) => matches!(record.family, Family::Six),
+    }
+}
 
 // What both versions refuse first, of a host without its brackets.
 fn check_shared(text: &[u8], port: Option<u16>) -> Result<(), SocksError>
@@ -68,16 +79,16 @@ pub fn check4(
     text: &[u8],
     kind: AddressKind,
     port: Option<u16>,
-    none: bool,
+    chosen: Option<Record>,
     announcing: bool,
 ) -> Result<(), SocksError>
-    ensures { result ≡ check_by4 local_dns text.now kind port none announcing }
+    ensures { result ≡ check_by4 local_dns text.now kind port (records_of chosen) announcing }
 {
     check_shared(text, port)?;
     if matches!(kind, AddressKind::Ipv6) {
         return Err(SocksError::IpV6);
     }
-    check_name(kind, text, NAME_V4, local_dns, none)?;
+    check_name(kind, text, NAME_V4, local_dns, finds_no_four(chosen))?;
     if announcing {
         return Err(SocksError::AnnouncesName);
     }

@@ -1,5 +1,5 @@
 // 01, "Opening v4" and "v4 request", and F-7: preparing a session over SOCKS4 and SOCKS4A.
-ghost use Rattle.std.specs.Prelude.{◌≡◌, cond, true, is_none, [], None, replicate};
+ghost use Rattle.std.specs.Prelude.{◌≡◌, cond, true, [], None, replicate};
 ghost use Rattle.protocol.specs.Host.{strip};
 ghost use Rattle.protocol.specs.AddressReading.{destination_of};
 ghost use Rattle.protocol.specs.Opening.{v4, is_announcing, port_number};
@@ -47,7 +47,7 @@ pub fn begin(
     chosen: Option<Record>,
 ) -> Begun
     requires { bytes.old ≡ replicate 1024 0 }
-    ensures { prepared_with result bytes.new ≡ prepared_by (check_by4 local_dns (strip host.now) read.kind port (is_none (chosen_of true (records_of chosen))) (is_announcing (target4 (asked_text read (cond local_dns (chosen_of true (records_of chosen)) None)) (strip host.now)))) (v4 (target4 (asked_text read (cond local_dns (chosen_of true (records_of chosen)) None)) (strip host.now)) (port_number port)) }
+    ensures { prepared_with result bytes.new ≡ prepared_by (check_by4 local_dns (strip host.now) read.kind port (records_of chosen) (is_announcing (target4 (asked_text read (cond local_dns (chosen_of true (records_of chosen)) None)) (strip host.now)))) (v4 (target4 (asked_text read (cond local_dns (chosen_of true (records_of chosen)) None)) (strip host.now)) (port_number port)) }
 {
     let text = address_text::host::strip_ipv6_brackets(host);
     let four = only_four(chosen);
@@ -57,7 +57,7 @@ pub fn begin(
         text,
         read.kind,
         port,
-        four.is_none(),
+        chosen,
         is_announcing(asked),
     ) {
         Ok(()) => accept(bytes, text, asked, port),
@@ -98,10 +98,11 @@ pub fn prepare(local_dns: bool, host: &[u8], port: Option<u16>, records: &[Recor
     ensures { result ≡ prepare4 (record { local_dns = local_dns; host = host.now; port = port; records = records.now }) }
 {
     let read = read_host(host);
-    let chosen = if looks_up(local_dns, host, read, NAME_V4) {
-        choose(records, true)
+    let most = if looks_up(local_dns, host, read, NAME_V4) {
+        usize::MAX
     } else {
-        None
+        0
     };
+    let chosen = choose(records, most, true);
     prepare_read(local_dns, host, read, port, chosen)
 }

@@ -95,10 +95,11 @@ pub fn prepare(
     ensures { result ≡ prepare5 (record { config = config; host = host.now; port = port; user = user.now; password = password.now; records = records.now }) }
 {
     let read = read_host(host);
-    let chosen = if looks_up(config.local_dns, host, read, NAME_V5) {
-        choose(records, false)
+    let most = if looks_up(config.local_dns, host, read, NAME_V5) {
+        1
     } else {
-        None
+        0
     };
+    let chosen = choose(records, most, false);
     prepare_read(config, host, read, port, user, password, chosen)
 }

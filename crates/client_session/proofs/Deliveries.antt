@@ -206,6 +206,31 @@ module _ (s : Session) (out : List ℕ) {r : Result ℕ SocksError} (q : r ≡ s
       let c : refusal e s out ≡ start s out = rw w at called in
       record { returned = ap started c; output = ap (λ (a : Call). a.output) c; inside = zero-le }
 
+-- the answer, how much is sent, and whether the session is started, by what the start came to
+abbrev pub started_at : Session → Result ℕ SocksError → code.Answer × ℕ × Bool
+started_at s (Ok n) = (code.Accepted, n, true)
+started_at s (Err e) = (code.Refused e, 0, s.started)
+
+module _ (s : Session) (out : List ℕ) {r : Result ℕ SocksError} (q : r ≡ start_at s.stage s.started s.requests.lengths (length out)) {a : code.Answer × ℕ × Bool} (w : a ≡ started_at s r) where
+  pub starts_by : length s.requests.bytes ≡ 1024 → {out' : List ℕ} → out' ≡ overwrite out 0 (take a.1 s.requests.bytes)
+      → StartResult (start s out)
+      (record { answer = a.0; sent = a.1; session = record { stage = s.stage; started = a.2; held = s.held; hold = s.hold; bound = s.bound; attempts = s.attempts; requests = s.requests } }) out'
+  unfolding overwrite
+  starts_by long {out'} f = go r refl
+    where
+      go : (r' : Result ℕ SocksError) → r ≡ r' → StartResult (start s out)
+          (record { answer = a.0; sent = a.1; session = record { stage = s.stage; started = a.2; held = s.held; hold = s.hold; bound = s.bound; attempts = s.attempts; requests = s.requests } }) out'
+      go (Ok n) e =
+          let b : a ≡ (code.Accepted, n, true) = w ∙ ap (started_at s) e in
+          let p = take n s.requests.bytes in
+          let k : length p ≡ n = length-take-le n s.requests.bytes (omega (arith, start_fits s out q e)) in
+          let o : out' ≡ p ++ drop n out = rw b at f ∙ ap (λ (m : ℕ). p ++ drop m out) (zero-add (length p) ∙ k) in
+          rw (b, o) (starts_as s out q e long refl)
+      go (Err y) e =
+          let b : a ≡ (code.Refused y, 0, s.started) = w ∙ ap (started_at s) e in
+          let o : out' ≡ out = rw b at f in
+          rw (b, o) (starts_refused s out q e)
+
 -- ---- an end: the session at the stage behind it
 
 abbrev pub end_call : Session → Result Stage SocksError → Ended
@@ -223,3 +248,19 @@ end_call_lem held hold x n q (Failed y) g = refl
 
 pub ends_as : (s : Session) {r : Result Stage SocksError} → r ≡ end_at s.stage s.started → end_call s r ≡ ended_by (end s)
 ends_as s q = ap (end_call s) q ∙ end_call_lem s.held s.hold s.bound s.attempts s.requests s.stage s.started
+
+-- the answer, the stage and how much is held, by what the end came to
+abbrev pub ended_at : Session → Result Stage SocksError → code.Answer × Stage × ℕ
+ended_at s (Ok stage) = (code.Accepted, stage, 0)
+ended_at s (Err e) = (code.Refused e, s.stage, s.held)
+
+module _ (s : Session) where
+  abbrev with_end : code.Answer × Stage × ℕ → Ended
+  with_end a = record { answer = a.0; session = record { stage = a.1; started = s.started; held = a.2; hold = s.hold; bound = s.bound; attempts = s.attempts; requests = s.requests } }
+
+  with_end_lem : (r : Result Stage SocksError) → with_end (ended_at s r) ≡ end_call s r
+  with_end_lem (Ok stage) = refl
+  with_end_lem (Err e) = refl
+
+  pub ends_by : {r : Result Stage SocksError} → r ≡ end_at s.stage s.started → {a : code.Answer × Stage × ℕ} → a ≡ ended_at s r → with_end a ≡ ended_by (end s)
+  ends_by {r} q w = ap with_end w ∙ with_end_lem r ∙ ends_as s q

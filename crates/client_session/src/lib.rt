@@ -9,6 +9,7 @@ ghost use Rattle.address_format.specs.endpoint.Written.{TextResult};
 ghost use Rattle.client_session.specs.Calls.{StartResult, start, DeliverResult, deliver, ended_by, end};
 
 use address_format::endpoint::put_bound;
+use buffers::write::copy;
 use client_delivery::delivery::{receive, send, unchanged};
 use client_stages::due::{Requests, Stage};
 use client_stages::outcome::is_open;
@@ -66,27 +67,30 @@ impl Session {
     pub fn start(self, out: &mut [u8]) -> Started
         ensures { StartResult (start self out.old) result out.new }
     {
-        match client_stages::start::start(
+        // one exit, as in `deliver`
+        let requests = self.requests;
+        let hold = self.hold;
+        let (answer, sent, started) = match client_stages::start::start(
             self.stage,
             self.started,
-            self.requests.lengths,
+            requests.lengths,
             out.len(),
         ) {
-            Ok(n) => {
-                out[..n].copy_from_slice(&self.requests.bytes[..n]);
-                Started {
-                    answer: Ok(()),
-                    sent: n,
-                    session: Session {
-                        started: true,
-                        ..self
-                    },
-                }
-            }
-            Err(error) => Started {
-                answer: Err(error),
-                sent: 0,
-                session: self,
+            Ok(sent) => (Ok(()), sent, true),
+            Err(error) => (Err(error), 0, self.started),
+        };
+        copy(out, 0, &requests.bytes[..sent]);
+        Started {
+            answer,
+            sent,
+            session: Session {
+                stage: self.stage,
+                started,
+                held: self.held,
+                hold,
+                bound: self.bound,
+                attempts: self.attempts,
+                requests,
             },
         }
     }
@@ -96,14 +100,14 @@ impl Session {
     pub fn deliver(self, piece: &[u8], out: &mut [u8]) -> Delivered
         ensures { DeliverResult (deliver self piece.now out.old) piece.now result out.new }
     {
-        // copies, and one exit: with `..self` or two exits the compiler copies the session more than once
-        let requests = self.requests;
+        // one exit, and the requests lent from a copy that is made only where something is sent: otherwise the compiler copies the session
+        // more than once
         let mut hold = self.hold;
         let (answer, taken) = match receive(
             self.stage,
             self.started,
             self.held,
-            requests.lengths,
+            self.requests.lengths,
             &mut hold,
             piece,
             out.len(),
@@ -112,7 +116,11 @@ impl Session {
             Ok(taken) => (Ok(()), taken),
             Err(error) => (Err(error), unchanged(self.stage, self.held, self.bound)),
         };
-        send(&requests, taken.from, taken.sent, out);
+        if 0 < taken.sent {
+            let requests = self.requests;
+            send(&requests, taken.from, taken.sent, out);
+        }
+        let requests = self.requests;
         Delivered {
             answer,
             used: taken.used,
@@ -133,18 +141,23 @@ impl Session {
     pub fn end(self) -> Ended
         ensures { result ≡ ended_by (end self) }
     {
-        match client_stages::outcome::end(self.stage, self.started) {
-            Ok(stage) => Ended {
-                answer: Ok(()),
-                session: Session {
-                    stage,
-                    held: 0,
-                    ..self
-                },
-            },
-            Err(error) => Ended {
-                answer: Err(error),
-                session: self,
+        // one exit, as in `deliver`
+        let requests = self.requests;
+        let hold = self.hold;
+        let (answer, stage, held) = match client_stages::outcome::end(self.stage, self.started) {
+            Ok(stage) => (Ok(()), stage, 0),
+            Err(error) => (Err(error), self.stage, self.held),
+        };
+        Ended {
+            answer,
+            session: Session {
+                stage,
+                started: self.started,
+                held,
+                hold,
+                bound: self.bound,
+                attempts: self.attempts,
+                requests,
             },
         }
     }

@@ -2,8 +2,8 @@
 
 #![tactic(auto)]
 
-ghost use Rattle.std.specs.Prelude.{◌≡◌};
-ghost use Rattle.lookup.specs.Chosen.{serves, chosen_of};
+ghost use Rattle.std.specs.Prelude.{◌≡◌, take};
+ghost use Rattle.lookup.specs.Chosen.{serves, step_of, chosen_of};
 
 use protocol::{Family, Record};
 
@@ -17,11 +17,22 @@ pub fn serves(four: bool, family: Family) -> bool
     }
 }
 
-// The first record that serves: behind it none is read.
-pub fn choose(records: &[Record], four: bool) -> Option<Record>
-    ensures { result ≡ chosen_of four records.now }
+// One record at a time: a record stays once it is found, and the next one is found if it serves.
+pub fn step(four: bool, chosen: Option<Record>, next: Record) -> Option<Record>
+    ensures { result ≡ step_of four chosen next }
 {
-    records
+    match chosen {
+        None if serves(four, next.family) => Some(next),
+        _ => chosen,
+    }
+}
+
+// The first record that serves, among so many at the list's start: behind it none is read.
+pub fn choose(records: &[Record], most: usize, four: bool) -> Option<Record>
+    ensures { result ≡ chosen_of four (take most records.now) }
+{
+    let end = most.min(records.len());
+    records[..end]
         .iter()
         .find(|record| serves(four, record.family))
         .copied()

@@ -8,7 +8,7 @@ use mathlib.Core.List.{List, [], ◌∷◌, ◌++◌}
 use lib.ListN.{length, take, drop, length-take}
 use lib.Dec.{ltb}
 use borrow.Author.Tests.{le-leb, lt-leb, ltb-false}
-use Rattle.protocol.specs.Answers.{Accepted, Refused}
+use Rattle.protocol.specs.Answers.{Answer, Accepted, Refused}
 use Rattle.std.specs.Prelude.{Result, Ok, Err, IfOk}
 use Rattle.protocol.specs.declared.SocksError.{SocksError}
 use Rattle.protocol.specs.declared.SocksError.TheVariants.{CredentialTooLong}
@@ -30,7 +30,7 @@ use Rattle.buffers.proofs.write.Parts.{take_min}
 use Rattle.proxy_replies.specs.stages.Answers as stages
 use Rattle.proxy_delivery.specs.declared.piece.Taken.{Taken}
 use Rattle.proxy_delivery.specs.piece.Pieces.{TakeResult}
-use Rattle.proxy_delivery.specs.delivery.Received.{Waits, Ways, settled, short, none, taken, ReceiveResult}
+use Rattle.proxy_delivery.specs.delivery.Received.{untaken, Waits, Ways, settled, short, none, taken, ReceiveResult}
 use Rattle.proxy_session.specs.declared.Credential.{Credential}
 use Rattle.proxy_session.specs.declared.Server.{Server}
 use Rattle.proxy_session.specs.declared.Delivered.{Delivered}
@@ -73,7 +73,7 @@ module _ (held : ℕ) (hold piece : List ℕ) (x : Bound) (a : Bool) (u p : Cred
 
   abbrev went : Stage → Result Taken SocksError → List ℕ → List ℕ → Call
   went stage (Ok t) hold' out' = record { answer = Accepted; session = server_of t.stage t.held hold' t.bound a u p; used = t.used; sent = t.sent; output = out' }
-  went stage (Err e) hold' out' = record { answer = Refused e; session = server_of stage held hold x a u p; used = 0; sent = 0; output = out' }
+  went stage (Err e) hold' out' = record { answer = Refused e; session = server_of stage held hold' x a u p; used = 0; sent = 0; output = out' }
 
   moves_as : (f : Field) (t : Taken) {hold' out' : List ℕ} → TakeResult c f (take held hold) piece hold x out t hold' out'
       → moves (server_of (Awaiting f) held hold x a u p) (feed (server c) (talk_at c f) (take held hold ++ piece)) out ≡ went (Awaiting f) (Ok t) hold' out'
@@ -95,15 +95,22 @@ module _ (held : ℕ) (hold piece : List ℕ) (x : Bound) (a : Bool) (u p : Cred
   goes : (stage : Stage) {r : Result Taken SocksError} {hold' out' : List ℕ} → Ways stage held c hold piece x out r hold' out'
       → deliver (server_of stage held hold x a u p) piece out ≡ went stage r hold' out'
   unfolding deliver onward
-  goes stage (settled n q w o) = rw (q, o, is_over_lem stage _ (take held hold) n)
-  goes stage (short n h q w o) = rw (q, o, waits_on stage _ (take held hold) n, lt-leb 262 (length out) h)
+  goes stage (settled n q w o) = rw (q, w, o, is_over_lem stage _ (take held hold) n)
+  goes stage (short n h q w o) = rw (q, w, o, waits_on stage _ (take held hold) n, lt-leb 262 (length out) h)
   goes stage (none n h z q w o) = rw (q, w, o, waits_on stage _ (take held hold) n, le-leb 262 (length out) h) (takes_none (server_of stage held hold x a u p) piece out z)
   goes stage (taken f t s h z q w) = rw (q, s, le-leb 262 (length out) h) (takes_more (server_of (Awaiting f) held hold x a u p) piece out z ∙ moves_as f t w)
 
+-- the answer, and what was taken, by what was received
+abbrev pub taken_by : Server → Result Taken SocksError → Answer × Taken
+taken_by s (Ok t) = (Accepted, t)
+taken_by s (Err e) = (Refused e, untaken s.stage s.held s.bound)
+
 -- what the code then answers with
+abbrev pub delivered_with : Server → Answer × Taken → List ℕ → Delivered
+delivered_with s a hold' = record { answer = a.0; used = a.1.used; sent = a.1.sent; server = server_of a.1.stage a.1.held hold' a.1.bound s.authenticates s.user s.password }
+
 abbrev pub delivered_by : Server → Result Taken SocksError → List ℕ → Delivered
-delivered_by s (Ok t) hold' = record { answer = Accepted; used = t.used; sent = t.sent; server = server_of t.stage t.held hold' t.bound s.authenticates s.user s.password }
-delivered_by s (Err e) hold' = record { answer = Refused e; used = 0; sent = 0; server = s }
+delivered_by s r hold' = delivered_with s (taken_by s r) hold'
 
 pub delivers : (s : Server) (piece out : List ℕ) {r : Result Taken SocksError} {hold' out' : List ℕ} → ReceiveResult s.stage s.held (setup_of s) s.hold piece s.bound out r hold' out'
     → DeliverResult (deliver s piece out) piece (delivered_by s r hold') out'
@@ -114,6 +121,10 @@ delivers s piece out {r} {hold'} {out'} v = go r (goes s.held s.hold piece s.bou
     go (Ok t) g w i = record { returned = ap delivered (sym g); output = ap (λ (d : Call). d.output) (sym g); inside = i; within = w }
     go (Err e) g w i = record { returned = ap delivered (sym g); output = ap (λ (d : Call). d.output) (sym g); inside = zero-le; within = zero-le }
 
+pub delivers_by : (s : Server) (piece out : List ℕ) {r : Result Taken SocksError} {hold' out' : List ℕ} → ReceiveResult s.stage s.held (setup_of s) s.hold piece s.bound out r hold' out' → {a : Answer × Taken} → a ≡ taken_by s r
+    → DeliverResult (deliver s piece out) piece (delivered_with s a hold') out'
+delivers_by s piece out v q = rw q (delivers s piece out v)
+
 -- ---- the caller's answer, and the end of the stream
 
 pub answers : (s : Server) (status : ℕ) (x : Endpoint) (out : List ℕ) {r : Said} {out' : List ℕ} → stages.AnswerResult (stages.answer_at s.stage status x out) r out'
@@ -122,9 +133,16 @@ unfolding answer
 answers s status x out {r} v =
     record { returned = (λ i. record { answer = (v.returned i).answer; sent = (v.returned i).sent; server = at_stage (v.returned i).stage s }); output = v.output; inside = v.inside }
 
+-- the answer, the stage and how many bytes are held, by what the end came to
+abbrev pub end_by : Server → Result Stage SocksError → Answer × Stage × ℕ
+end_by s (Ok t) = (Accepted, t, 0)
+end_by s (Err e) = (Refused e, s.stage, s.held)
+
+abbrev pub ended_with : Server → Answer × Stage × ℕ → Ended
+ended_with s (a, t, n) = record { answer = a; server = server_of t n s.hold s.bound s.authenticates s.user s.password }
+
 abbrev pub ended_as : Server → Result Stage SocksError → Ended
-ended_as s (Ok t) = record { answer = Accepted; server = server_of t 0 s.hold s.bound s.authenticates s.user s.password }
-ended_as s (Err e) = record { answer = Refused e; server = s }
+ended_as s r = ended_with s (end_by s r)
 
 pub ends : (s : Server) {r : Result Stage SocksError} → r ≡ end_at s.stage → ended_as s r ≡ ended_by (end s)
 unfolding end
@@ -135,6 +153,9 @@ ends s {r} q = rw q (go s.stage refl)
     go (Asked v) e = rw e
     go (Open v) e = rw e
     go (Failed x) e = rw e
+
+pub ends_by : (s : Server) {r : Result Stage SocksError} → r ≡ end_at s.stage → {x : Answer × Stage × ℕ} → x ≡ end_by s r → ended_with s x ≡ ended_by (end s)
+ends_by s q w = ap (ended_with s) w ∙ ends s q
 
 -- ---- the set-up
 

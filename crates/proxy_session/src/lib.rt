@@ -16,6 +16,7 @@ use protocol::{AddressKind, Bound, CREDENTIAL, NAME_V4, Record, SocksError};
 use proxy_decisions::credentials::Credentials;
 use proxy_decisions::destination::{Target, as_target};
 use proxy_delivery::delivery::receive;
+use proxy_delivery::piece::Taken;
 use proxy_replies::stages::{Outcome, has_destination};
 use proxy_spec::{Field, Stage};
 
@@ -172,9 +173,16 @@ impl Server {
     pub fn deliver(self, piece: &[u8], out: &mut [u8]) -> Delivered
         ensures { DeliverResult (deliver self piece.now out.old) piece.now result out.new }
     {
+        // locals lent, and one exit: with `self` lent, or two exits, the compiler copies the whole value more than once
         let mut hold = self.hold;
-        let credentials = self.credentials();
-        match receive(
+        let user = self.user;
+        let password = self.password;
+        let credentials = Credentials {
+            authenticates: self.authenticates,
+            user: user.text(),
+            password: password.text(),
+        };
+        let (answer, taken) = match receive(
             self.stage,
             self.held,
             &credentials,
@@ -183,23 +191,30 @@ impl Server {
             self.bound,
             out,
         ) {
-            Ok(taken) => Delivered {
-                answer: Ok(()),
-                used: taken.used,
-                sent: taken.sent,
-                server: Server {
-                    stage: taken.stage,
-                    held: taken.held,
-                    hold,
-                    bound: taken.bound,
-                    ..self
+            Ok(taken) => (Ok(()), taken),
+            Err(error) => (
+                Err(error),
+                Taken {
+                    stage: self.stage,
+                    held: self.held,
+                    used: 0,
+                    sent: 0,
+                    bound: self.bound,
                 },
-            },
-            Err(error) => Delivered {
-                answer: Err(error),
-                used: 0,
-                sent: 0,
-                server: self,
+            ),
+        };
+        Delivered {
+            answer,
+            used: taken.used,
+            sent: taken.sent,
+            server: Server {
+                stage: taken.stage,
+                held: taken.held,
+                hold,
+                bound: taken.bound,
+                authenticates: self.authenticates,
+                user,
+                password,
             },
         }
     }
@@ -224,18 +239,22 @@ impl Server {
     pub fn end(self) -> Ended
         ensures { result ≡ ended_by (end self) }
     {
-        match proxy_replies::stages::end(self.stage) {
-            Ok(stage) => Ended {
-                answer: Ok(()),
-                server: Server {
-                    stage,
-                    held: 0,
-                    ..self
-                },
-            },
-            Err(error) => Ended {
-                answer: Err(error),
-                server: self,
+        // one exit, as in `deliver`
+        let hold = self.hold;
+        let (answer, stage, held) = match proxy_replies::stages::end(self.stage) {
+            Ok(stage) => (Ok(()), stage, 0),
+            Err(error) => (Err(error), self.stage, self.held),
+        };
+        Ended {
+            answer,
+            server: Server {
+                stage,
+                held,
+                hold,
+                bound: self.bound,
+                authenticates: self.authenticates,
+                user: self.user,
+                password: self.password,
             },
         }
     }

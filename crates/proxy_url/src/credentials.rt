@@ -27,11 +27,13 @@ fn read_escaped(text: &[u8]) -> Result<(u8, usize), usize>
     ensures { result ≡ escaped_of text.now }
 {
     let first = byte_at(text, 0);
-    if is_unreserved(first) {
-        return Ok((first, 1));
-    }
+    // `%` is asked for first, since many tests would stand before it.
     if first != b'%' {
-        return Err(0);
+        return if is_unreserved(first) {
+            Ok((first, 1))
+        } else {
+            Err(0)
+        };
     }
     let high = hex_value(byte_at(text, 1));
     if 16 <= high {

@@ -11,11 +11,8 @@ mod schemes;
 mod texts;
 
 ghost use Rattle.std.specs.Prelude.{◌≡◌, ◌+◌, false, take, drop};
-ghost use Rattle.proxy_url_spec.specs.Reading.{line_of};
-ghost use Rattle.proxy_url.specs.Coded.{ending};
-ghost use Rattle.proxy_url.specs.Calls.{refused_at, accepted_as, read_of};
+ghost use Rattle.proxy_url.specs.Calls.{refused_at, read_of};
 
-use crate::credentials::Credential;
 use crate::rests::read_rest;
 use crate::schemes::read_scheme;
 use protocol::{CREDENTIAL, SocksError, Version};
@@ -39,11 +36,6 @@ pub struct ProxyLine {
     pub port: u16,
 }
 
-const NO_CREDENTIAL: Credential = Credential {
-    len: 0,
-    bytes: [0u8; CREDENTIAL],
-};
-
 fn refused(place: usize) -> ProxyLine
     ensures { result ≡ refused_at place }
 {
@@ -63,47 +55,44 @@ fn refused(place: usize) -> ProxyLine
     }
 }
 
-// What a line stands for, or the place at which it dies.
-fn read_lawful(line: &[u8]) -> Result<ProxyLine, usize>
-    ensures { result ≡ ending accepted_as (line_of line.now) }
+// A line of any bytes and length.
+// Each way out makes its answer: a `Result` that held it would be copied whole.
+pub fn read(line: &[u8]) -> ProxyLine
+    ensures { result ≡ read_of line.now }
 {
-    let ((version, local_dns), at) = read_scheme(line)?;
-    // No `map_err`: that the sum fits is known here, and not in a closure.
+    let ((version, local_dns), at) = match read_scheme(line) {
+        Ok(read) => read,
+        Err(place) => return refused(place),
+    };
     let rest = match read_rest(version, &line[at..]) {
         Ok(rest) => rest,
-        Err(n) => return Err(at + n),
+        Err(n) => return refused(at + n),
     };
-    let (user, password) = rest.credentials.unwrap_or((NO_CREDENTIAL, NO_CREDENTIAL));
-    let Credential {
-        len: user_len,
-        bytes: user,
-    } = user;
-    let Credential {
-        len: password_len,
-        bytes: password,
-    } = password;
     let host = rest.endpoint.host;
-    Ok(ProxyLine {
+    let mut read = ProxyLine {
         answer: Ok(()),
         place: 0,
         version,
         local_dns,
-        proxy_auth: rest.credentials.is_some(),
-        user,
-        user_len,
-        password,
-        password_len,
+        proxy_auth: false,
+        user: [0u8; CREDENTIAL],
+        user_len: 0,
+        password: [0u8; CREDENTIAL],
+        password_len: 0,
         host_at: at + host.at,
         host_len: host.len,
         port: rest.endpoint.port,
-    })
-}
-
-// A line of any bytes and length.
-pub fn read(line: &[u8]) -> ProxyLine
-    ensures { result ≡ read_of line.now }
-{
-    read_lawful(line).unwrap_or_else(refused)
+    };
+    if let Some((user, password)) = &rest.credentials {
+        read.proxy_auth = true;
+        let name = user.bytes;
+        let secret = password.bytes;
+        read.user = name;
+        read.user_len = user.len;
+        read.password = secret;
+        read.password_len = password.len;
+    }
+    read
 }
 
 // The host of a line that was read: a part of it.

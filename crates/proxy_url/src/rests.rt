@@ -55,6 +55,10 @@ pub fn read_rest(version: Version, text: &[u8]) -> Result<Authority, usize>
     };
     match version {
         Version::V4 => Err(place),
-        Version::V5 => read_with_credentials(text).map_err(|with| place.max(with)),
+        // No `map_err`: it copies what was read.
+        Version::V5 => match read_with_credentials(text) {
+            Err(with) => Err(place.max(with)),
+            whole => whole,
+        },
     }
 }

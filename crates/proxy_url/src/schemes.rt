@@ -1,6 +1,6 @@
 // F-9: the scheme of a line, and `://`.
 ghost use Rattle.std.specs.Prelude.{◌≡◌};
-ghost use Rattle.proxy_url_spec.specs.Reading.{word, either, scheme_of};
+ghost use Rattle.proxy_url_spec.specs.Reading.{word, scheme_of};
 
 use crate::texts::common;
 use protocol::Version;
@@ -21,24 +21,22 @@ fn read_word(name: &[u8], scheme: Scheme, text: &[u8]) -> Result<(Scheme, usize)
     }
 }
 
-// One or the other, which die where the later of the two does.
-fn either(
-    a: Result<(Scheme, usize), usize>,
-    b: Result<(Scheme, usize), usize>,
-) -> Result<(Scheme, usize), usize>
-    ensures { result ≡ either a b }
-{
-    a.or_else(|n| b.map_err(|m| n.max(m)))
-}
-
 // The scheme and the next place, or the place at which it dies.
 #[tactic(auto, unfolding(proxy_url_spec::specs::Reading::scheme_of, proxy_url_spec::specs::Reading::or))]
 pub fn read_scheme(text: &[u8]) -> Result<(Scheme, usize), usize>
     ensures { result ≡ scheme_of text.now }
 {
-    let socks4 = read_word(b"socks4://", (Version::V4, true), text);
-    let socks4a = read_word(b"socks4a://", (Version::V4, false), text);
-    let socks5 = read_word(b"socks5://", (Version::V5, true), text);
-    let socks5h = read_word(b"socks5h://", (Version::V5, false), text);
-    either(socks4, either(socks4a, either(socks5, socks5h)))
+    // A word is compared only where those before it have died.
+    read_word(b"socks4://", (Version::V4, true), text).or_else(|a| {
+        read_word(b"socks4a://", (Version::V4, false), text)
+            .or_else(|b| {
+                read_word(b"socks5://", (Version::V5, true), text)
+                    .or_else(|c| {
+                        let socks5h = read_word(b"socks5h://", (Version::V5, false), text);
+                        socks5h.map_err(|n| c.max(n))
+                    })
+                    .map_err(|n| b.max(n))
+            })
+            .map_err(|n| a.max(n))
+    })
 }

@@ -70,10 +70,11 @@ fn end(session: Session) -> Turn {
 
 // The text of the bound address.
 fn bound_text(session: Session, out: &mut [u8]) -> Call {
-    match session.bound_text(out) {
-        Ok(len) => call_of(Ok(()), 0, len),
-        Err(error) => call_of(Err(error), 0, 0),
-    }
+    let (answer, len) = match session.bound_text(out) {
+        Ok(len) => (Ok(()), len),
+        Err(error) => (Err(error), 0),
+    };
+    call_of(answer, 0, len)
 }
 
 // The number of attempts.
@@ -109,12 +110,6 @@ fn take_call(session: Session, s: &[u8], at: usize, out: &mut [u8]) -> Turn {
     }
 }
 
-// The next call, with the output that it lends.
-fn next_call(before: Turn, s: &[u8], at: usize, kept: &mut [u8]) -> Turn {
-    let lent = cases::lent_at(s, past(s, at, 1));
-    take_call(before.session, s, at, tally::output(kept, lent))
-}
-
 fn take_calls(
     mut turn: Turn,
     mut tally: Tally,
@@ -125,7 +120,8 @@ fn take_calls(
 ) -> Writer {
     let mut at = past(s, from, 2);
     for i in 0..number_at(s, from) {
-        turn = next_call(turn, s, at, kept);
+        let lent = cases::lent_at(s, past(s, at, 1));
+        turn = take_call(turn.session, s, at, tally::output(kept, lent));
         tally = tally::take(tally, turn.call, s, at, kept, text);
         at = cases::call_end(s, at, b'S');
     }

@@ -153,16 +153,32 @@ impl Row<'_> {
         requires { Relayable self.hops.now spot self.bytes.now (length out.old) }
         ensures { RelayResult (relayed self.entry.hops.now self.entry.bytes.now spot.behind (session_at self.entry.hops.now self.entry.bytes.now spot hold.old) piece.now) spot piece.now out.old result hold.new out.new }
     {
-        let here = self.hand(spot, hold, piece, out);
-        if !here.spot.goes_on() {
-            return here;
-        }
-        let begun = self.begin(here.spot, out);
-        let last = self.relay(begun, hold, &piece[here.used..], out);
-        Relayed {
-            spot: last.spot,
-            used: here.used + last.used,
-        }
+        relay_parts(self.hops, spot, self.bytes, hold, piece, out)
+    }
+}
+
+// `Row::relay`, with the row in its parts: a row passed whole stands in memory, and a caller that lends a copy would have to make it.
+fn relay_parts(
+    hops: &[Hop; PROXIES],
+    spot: Spot,
+    bytes: &[u8],
+    hold: &mut [u8; HOLD],
+    piece: &[u8],
+    out: &mut [u8],
+) -> Relayed
+    requires { Relayable hops.now spot bytes.now (length out.old) }
+    ensures { RelayResult (relayed hops.now bytes.now spot.behind (session_at hops.now bytes.now spot hold.old) piece.now) spot piece.now out.old result hold.new out.new }
+{
+    let row = Row { hops, bytes };
+    let here = row.hand(spot, hold, piece, out);
+    if !here.spot.goes_on() {
+        return here;
+    }
+    let begun = row.begin(here.spot, out);
+    let last = relay_parts(hops, begun, bytes, hold, &piece[here.used..], out);
+    Relayed {
+        spot: last.spot,
+        used: here.used + last.used,
     }
 }
 
@@ -178,6 +194,5 @@ pub fn relay(
     requires { Relayable hops.now spot bytes.now (length out.old) }
     ensures { RelayResult (relayed hops.now bytes.now spot.behind (session_at hops.now bytes.now spot hold.old) piece.now) spot piece.now out.old result hold.new out.new }
 {
-    let row = Row { hops, bytes };
-    row.relay(spot, hold, piece, out)
+    relay_parts(hops, spot, bytes, hold, piece, out)
 }

@@ -3,7 +3,7 @@ ghost use Rattle.std.specs.Prelude.{◌≡◌, List, ℕ, ◌-◌, ◌≤◌, �
 ghost use Rattle.protocol.specs.declared.Bound.{Bound};
 ghost use Rattle.client_stages.specs.due.Stages.{view_at};
 ghost use Rattle.talk.specs.Talk.{is_over};
-ghost use Rattle.route_session.specs.calls.Taking.{delivered_with};
+ghost use Rattle.route_session.specs.calls.Taking.{route_at, delivered_at};
 ghost use Rattle.route_session.specs.calls.Calls.{last_in, deliver, DeliverResult, end, ended_by, outcome, shortest_behind, wants, bound};
 
 use client_delivery::bound_address::{address, unbound};
@@ -77,52 +77,70 @@ fn shortest_behind(hops: &[Hop; PROXIES], behind: usize) -> usize
     sum
 }
 
+// A piece for a route of so many proxies that stands at a spot: what is answered, and where it leaves the proxy that is then spoken to.
+fn take(
+    hops: &[Hop; PROXIES],
+    count: usize,
+    spot: Spot,
+    bytes: &[u8; ROUTE_REQUESTS],
+    hold: &mut [u8; HOLD],
+    piece: &[u8],
+    out: &mut [u8],
+) -> Result<Relayed, SocksError>
+    ensures { DeliverResult (deliver (route_at hops.now count spot bytes.now hold.old) piece.now out.old) piece.now (delivered_at hops.now count spot bytes.now result hold.new) out.new }
+{
+    if is_over(spot.stage) {
+        return Err(SocksError::Settled);
+    }
+    let last = last_of(count);
+    if out.len() < ROUTE_OUTPUT * (last + 1) {
+        return Err(SocksError::ShortOutput);
+    }
+    let start = Spot {
+        behind: spot.behind.min(last),
+        sent: 0,
+        ..spot
+    };
+    Ok(relay(hops, start, bytes, hold, piece, out))
+}
+
 impl Route {
-    // A piece for a route: what is answered, and where it leaves the proxy that is then spoken to.
-    fn take(&mut self, piece: &[u8], out: &mut [u8]) -> Result<Relayed, SocksError>
-        ensures { DeliverResult (deliver self.old piece.now out.old) piece.now (delivered_with result self.new) out.new }
+    // Takes a piece, and puts what it makes due at the output's start: to the proxy that is spoken to, and once that is open to the next,
+    // which takes what it left. Refused if the route is settled, or the output has less than 1,024 bytes for each of its proxies.
+    pub fn deliver(self, piece: &[u8], out: &mut [u8]) -> Delivered
+        ensures { DeliverResult (deliver self piece.now out.old) piece.now result out.new }
     {
-        if is_over(self.stage) {
-            return Err(SocksError::Settled);
-        }
-        let last = last_of(self.count);
-        if out.len() < ROUTE_OUTPUT * (last + 1) {
-            return Err(SocksError::ShortOutput);
-        }
+        // copies are lent, and one exit hands the route's own bytes back: otherwise the compiler copies the arrays more than once
+        let hops = self.hops;
+        let bytes = self.bytes;
+        let mut hold = self.hold;
         let spot = Spot {
-            behind: self.behind.min(last),
+            behind: self.behind,
             stage: self.stage,
             held: self.held,
             bound: self.bound,
             attempts: self.attempts,
             sent: 0,
         };
-        let relayed = relay(&self.hops, spot, &self.bytes, &mut self.hold, piece, out);
-        self.stage = relayed.spot.stage;
-        self.held = relayed.spot.held;
-        self.bound = relayed.spot.bound;
-        self.attempts = relayed.spot.attempts;
-        self.behind = relayed.spot.behind;
-        Ok(relayed)
-    }
-
-    // Takes a piece, and puts what it makes due at the output's start: to the proxy that is spoken to, and once that is open to the next,
-    // which takes what it left. Refused if the route is settled, or the output has less than 1,024 bytes for each of its proxies.
-    pub fn deliver(mut self, piece: &[u8], out: &mut [u8]) -> Delivered
-        ensures { DeliverResult (deliver self piece.now out.old) piece.now result out.new }
-    {
-        match self.take(piece, out) {
-            Ok(relayed) => Delivered {
-                answer: Ok(()),
-                used: relayed.used,
-                sent: relayed.spot.sent,
-                route: self,
-            },
-            Err(error) => Delivered {
-                answer: Err(error),
-                used: 0,
-                sent: 0,
-                route: self,
+        let (answer, relayed) = match take(&hops, self.count, spot, &bytes, &mut hold, piece, out) {
+            Ok(relayed) => (Ok(()), relayed),
+            Err(error) => (Err(error), Relayed { spot, used: 0 }),
+        };
+        let kept = self.bytes;
+        Delivered {
+            answer,
+            used: relayed.used,
+            sent: relayed.spot.sent,
+            route: Route {
+                stage: relayed.spot.stage,
+                held: relayed.spot.held,
+                hold,
+                bound: relayed.spot.bound,
+                attempts: relayed.spot.attempts,
+                count: self.count,
+                behind: relayed.spot.behind,
+                hops,
+                bytes: kept,
             },
         }
     }
@@ -131,18 +149,17 @@ impl Route {
     pub fn end(self) -> Ended
         ensures { result ≡ ended_by (end self) }
     {
-        match client_stages::outcome::end(self.stage, true) {
-            Ok(stage) => Ended {
-                answer: Ok(()),
-                route: Route {
-                    stage,
-                    held: 0,
-                    ..self
-                },
-            },
-            Err(error) => Ended {
-                answer: Err(error),
-                route: self,
+        // one exit: with two the compiler copies the route twice
+        let (answer, stage, held) = match client_stages::outcome::end(self.stage, true) {
+            Ok(stage) => (Ok(()), stage, 0),
+            Err(error) => (Err(error), self.stage, self.held),
+        };
+        Ended {
+            answer,
+            route: Route {
+                stage,
+                held,
+                ..self
             },
         }
     }

@@ -1,19 +1,39 @@
 -- Bytes moved to the start of a hold, and what is unread kept there.
 use Prim.Native.Nat.{ℕ, ◌+◌, ◌-◌, ◌≤◌, ◌<◌}
 use native.Mathlib.Nat.{zero-add}
+use native.Mathlib.Numerals.{add-one}
 use native.Mathlib.Omega.{arith}
 use mathlib.Core.Path.{◌≡◌, ap, sym, ◌∙◌}
 use mathlib.Core.List.{List, ◌++◌, append_assoc}
-use lib.ListN.{length, take, drop, length-drop, take-append-drop}
-use lib.Seq.{take-add, drop_at, drop-append-add, length-take-le, paste}
+use lib.ListN.{length, take, drop, get_or, set, length-drop, take-append-drop}
+use lib.Seq.{take-add, drop_at, drop-append-add, get_or-drop, length-take-le, paste, paste-suc, length-paste, drop-paste}
 use Rattle.buffers.specs.write.Written.{overwrite, Wrote}
 use Rattle.buffers.proofs.write.Laws.{length_overwrite, overwrite_more}
 use Rattle.buffers.proofs.write.Parts.{part_from}
 
--- bytes moved to the start
-pub moved : (h : List ℕ) (from to : ℕ) → to ≤ length h → paste h 0 (drop from h) (to - from) ≡ overwrite h 0 (take (to - from) (drop from h))
-unfolding overwrite
-moved h from to k = let l = length-drop from h in rw (length-take-le (to - from) (drop from h) (omega arith))
+-- ---- bytes moved to the start
+
+module _ (h : List ℕ) (from : ℕ) where
+  -- a byte behind those moved so far stands where it stood
+  unmoved : (i : ℕ) → from + i < length h → get_or (paste h 0 (drop from h) i) (from + i) 0 ≡ get_or (drop from h) i 0
+  unmoved i k =
+      let l : i ≤ length (drop from h) = rw length-drop (omega arith) in
+      let z : from + i ≡ 0 + i + from = omega arith in
+      rw (get_or-drop from h i 0, z)
+      (sym (get_or-drop (0 + i) (paste h 0 (drop from h) i) from 0) ∙ ap (λ (t : List ℕ). get_or t from 0) (drop-paste h 0 (drop from h) i (omega arith) l) ∙ get_or-drop (0 + i) h from 0)
+
+  pub moved : {l : List ℕ} (i : ℕ) → from + i < length h → l ≡ paste h 0 (drop from h) i → set l i (get_or l (from + i) 0) ≡ paste h 0 (drop from h) (i + 1)
+  moved i k e =
+      let l : i < length (drop from h) = rw length-drop (omega arith) in
+      rw (e, unmoved i k, add-one i)
+      (ap (λ (j : ℕ). set (paste h 0 (drop from h) i) j (get_or (drop from h) i 0)) (sym (zero-add i)) ∙ paste-suc h 0 (drop from h) i 0 (omega arith) l)
+
+  pub moved_length : {l : List ℕ} (i : ℕ) → from + i ≤ length h → l ≡ paste h 0 (drop from h) i → length l ≡ length h
+  moved_length i k e = ap length e ∙ length-paste h 0 (drop from h) i (omega arith) (rw length-drop (omega arith))
+
+  pub all_moved : (n : ℕ) → from + n ≤ length h → paste h 0 (drop from h) n ≡ overwrite h 0 (take n (drop from h))
+  unfolding overwrite
+  all_moved n k = let l : n ≤ length (drop from h) = rw length-drop (omega arith) in rw (length-take-le n (drop from h) l)
 
 -- ---- what is unread, kept at the start of a hold
 

@@ -1,13 +1,13 @@
 -- F-10: a course behind an entry.
-use Prim.Native.Nat.{ℕ, ◌+◌, ◌-◌, ◌≤◌, ◌<◌}
+use Prim.Native.Nat.{ℕ, ◌+◌, ◌-◌, ◌≤◌, ◌<◌, ◌%◌, ◌^◌}
 use native.Mathlib.Omega.{arith}
 use mathlib.Core.Path.{◌≡◌, refl, ap, sym, ◌∙◌}
 use mathlib.Core.Bool.{Bool, true, false, cond, not, ◌&&◌}
-use Rattle.std.specs.Prelude.{None, Some}
+use Rattle.std.specs.Prelude.{IfOk}
 use Rattle.std.specs.Cmp.Lexicographic.{pointwise}
-use Rattle.std.proofs.lemmas.List.{drop-take}
+use Rattle.std.proofs.lemmas.List.{drop-take, take_all}
 use mathlib.Core.List.{List, [], ◌∷◌, ◌++◌}
-use lib.ListN.{length, take, drop, replicate, length-append, length-take, length-drop, length-replicate}
+use lib.ListN.{length, get_or, take, drop, replicate, length-append, length-take, length-drop, length-replicate}
 use lib.Seq.{length-take-le, take-append-le, take-append-add, take-append_seam}
 use lib.Dec.{eqb, lit≤}
 use borrow.Author.Tests.{le-leb, lt-leb, eq-eqb, ne_eqb}
@@ -23,21 +23,63 @@ use Rattle.client_session.specs.Session.{side_of, view, room_at}
 use Rattle.client_session.specs.Calls.{Call, refusal, takes, deliver, DeliverResult}
 use Rattle.talk.specs.Talk.{onward, is_over}
 use Rattle.captures_spec.specs.Captures.{sent, received}
+use Rattle.buffers.specs.write.Written.{overwrite}
+use Rattle.client_stages.specs.due.Parts.{part}
+use Rattle.client_delivery.specs.declared.piece.Taken.{Taken}
+use Rattle.client_delivery.specs.delivery.Received.{Received, Bounded, ReceiveResult}
+use Rattle.client_session.proofs.Deliveries.{session_of, taken_by, taken_within, delivers_by}
 use Rattle.captures.specs.declared.walk.Course.{Course}
 use Rattle.captures.specs.Walk.{passed, taking}
-use Rattle.captures.specs.Coded.{Within, Passes}
+use Rattle.captures.specs.Coded.{Within, Typed, carried, Passes, Delivers}
 
 abbrev pub course : Session → ℕ → ℕ → Course
 course s due n = record { session = s; due = due; sent = n }
 
 -- ---- sent bytes
 
-pointwise_same : (a b : List ℕ) → pointwise eqb a b ≡ same a b
+-- whether bytes begin with a piece, by the first byte of each
+abbrev pub begins_with : List ℕ → List ℕ → Bool
+begins_with bytes piece = same piece (take (length piece) bytes)
+
+pub pointwise_same : (a b : List ℕ) → pointwise eqb a b ≡ same a b
 unfolding same
 pointwise_same [] [] = refl
 pointwise_same [] (y ∷ ys) = refl
 pointwise_same (x ∷ xs) [] = refl
 pointwise_same (x ∷ xs) (y ∷ ys) = ap (λ (t : Bool). eqb x y && t) (pointwise_same xs ys)
+
+abbrev rest_of : List ℕ → List ℕ
+rest_of l = take (length l - 1) (drop 1 l)
+
+rest_is : (x : ℕ) (l : List ℕ) → rest_of (x ∷ l) ≡ l
+rest_is x l = take_all (length (x ∷ l) - 1) l (omega arith)
+
+pub begins_all : (bytes piece : List ℕ) → length piece < 1 → true ≡ begins_with bytes piece
+unfolding same
+begins_all bytes [] h = refl
+begins_all bytes (x ∷ l) h = absurd (omega arith)
+
+pub begins_short : (bytes piece : List ℕ) → 1 ≤ length piece → length bytes < 1 → false ≡ begins_with bytes piece
+unfolding same
+begins_short bytes [] h k = absurd (omega arith)
+begins_short [] (x ∷ l) h k = refl
+begins_short (y ∷ m) (x ∷ l) h k = absurd (omega arith)
+
+pub begins_other : (bytes piece : List ℕ) → 1 ≤ length piece → 1 ≤ length bytes → (get_or piece 0 0 ≡ get_or bytes 0 0 → ⊥) → false ≡ begins_with bytes piece
+unfolding same
+begins_other bytes [] h k f = absurd (omega arith)
+begins_other [] (x ∷ l) h k f = absurd (omega arith)
+begins_other (y ∷ m) (x ∷ l) h k f = rw (ne_eqb x y f)
+
+pub begins_on : (bytes piece : List ℕ) → 1 ≤ length piece → 1 ≤ length bytes → get_or piece 0 0 ≡ get_or bytes 0 0 → begins_with (rest_of bytes) (rest_of piece) ≡ begins_with bytes piece
+unfolding same
+begins_on bytes [] h k e = absurd (omega arith)
+begins_on [] (x ∷ l) h k e = absurd (omega arith)
+begins_on (y ∷ m) (x ∷ l) h k e = rw (rest_is x l, rest_is y m, eq-eqb x y e)
+
+pub rest_short : (l : List ℕ) → 1 ≤ length l → length (rest_of l) < length l
+rest_short [] h = absurd (omega arith)
+rest_short (x ∷ l) h = rw (rest_is x l) (omega arith)
 
 module _ (c : Course) (bs out : List ℕ) (w : Within c out) where
   -- the bytes that are due next
@@ -46,19 +88,19 @@ module _ (c : Course) (bs out : List ℕ) (w : Within c out) where
       let e : c.due ≡ c.sent + (c.due - c.sent) = omega (arith, w.0) in
       ap (λ (n : ℕ). drop c.sent (take n out)) e ∙ drop-take c.sent (c.due - c.sent) out
 
-  module _ {t : Bool} (q : pointwise eqb bs (take (length bs) (take (c.due - c.sent) (drop c.sent out))) ≡ t) where
+  module _ {t : Bool} (q : t ≡ same bs (take (length bs) (take (c.due - c.sent) (drop c.sent out)))) where
     begins : same bs (take (length bs) (drop c.sent (take c.due out))) ≡ t
-    begins = sym (pointwise_same bs _) ∙ ap (λ (l : List ℕ). pointwise eqb bs (take (length bs) l)) next_due ∙ q
+    begins = ap (λ (l : List ℕ). same bs (take (length bs) l)) next_due ∙ sym q
 
-    pub sent_other : t ≡ false → Passes sent bs c out None out
-    sent_other e = record { within = tt; on = λ on. rw (begins ∙ e) }
+    pub sent_other : t ≡ false → Passes sent bs c out false c out
+    sent_other e = record { within = λ z. absurd (cc z); on = λ on. rw (begins ∙ e) }
 
-    pub sent_next : t ≡ true → Passes sent bs c out (Some (course c.session c.due (c.sent + length bs))) out
-    sent_next e =
+    pub sent_next : Typed c.session → t ≡ true → Passes sent bs c out true (course c.session c.due (c.sent + length bs)) out
+    sent_next y e =
         let l = length-take-le c.due out w.1 in
         let k = ap length (same_equal bs _ (begins ∙ e)) in
         record {
-          within = (omega (arith, w.0, k, length-take (length bs) (drop c.sent (take c.due out)), length-drop c.sent (take c.due out), l), w.1);
+          within = λ z. ((omega (arith, w.0, k, length-take (length bs) (drop c.sent (take c.due out)), length-drop c.sent (take c.due out), l), w.1), y);
           on = λ on. rw (begins ∙ e);
         }
 
@@ -97,9 +139,28 @@ deliver_same s bs a b p q =
     go false false = record { session = refl; used = refl; sends = refl }
     go false true = takes_same s bs a b
 
+-- what was received, made of the session in place
+module _ (s : Session) (bs out : List ℕ) {r : Received} {hold' : List ℕ} (v : ReceiveResult s.stage s.started s.held s.requests.lengths s.hold bs (length out) s.bound r hold') (small : s.attempts < 2 ^ 64)
+    {t : Taken} (q : t ≡ (taken_by s r).1) where
+  pub fits : IfOk r (Bounded bs (length out)) → (t.from + t.sent ≤ 778) × (t.sent ≤ length out)
+  fits b = rw q (taken_within s bs out v small b refl)
+
+  pub in_place : {n : ℕ} → n ≡ (s.attempts + t.attempts) % 2 ^ 64 → length s.requests.bytes ≡ 1024 → {out' : List ℕ} → out' ≡ overwrite out 0 (part s.requests.bytes t.from t.sent)
+      → Delivers s bs out t (session_of t.stage s.started t.held hold' t.bound n s.requests.lengths s.requests.bytes) out'
+  in_place {n} more long {out'} w =
+      let d = delivers_by s bs out v small refl (more ∙ ap (λ (x : Taken). (s.attempts + x.attempts) % 2 ^ 64) q) long (w ∙ ap (λ (x : Taken). overwrite out 0 (part s.requests.bytes x.from x.sent)) q) in
+      let p = d.returned in
+      let c = deliver s bs out in
+      rw q (record {
+        returned = λ i. record { answer = c.answer; used = (p i).used; sent = (p i).sent; session = (p i).session };
+        output = d.output;
+        inside = d.inside;
+        within = d.within;
+      })
+
 module _ (c : Course) (bs out : List ℕ) (w : Within c out) where
-  pub received_over : 1024 < c.due → Passes received bs c out None out
-  received_over h = record { within = tt; on = λ on. rw (length-take-le c.due out w.1, lt-leb c.due 1024 h) }
+  pub received_over : 1024 < c.due → Passes received bs c out false c out
+  received_over h = record { within = λ z. absurd (cc z); on = λ on. rw (length-take-le c.due out w.1, lt-leb c.due 1024 h) }
 
   module _ (l : length out ≡ 1802) (h : c.due ≤ 1024) {r : Delivered} {ys : List ℕ} (post : List ℕ)
       (d : DeliverResult (deliver c.session bs (take (1802 - c.due) (drop c.due out))) bs r ys)
@@ -121,14 +182,15 @@ module _ (c : Course) (bs out : List ℕ) (w : Within c out) where
         ((λ i. cond (eqb (n.used i) (length bs)) (on (n.session i) (take c.due out ++ n.sends i) c.sent) false)
         ∙ (λ i. cond (eqb (sym (ap (λ (x : Delivered). x.used) d.returned) i) (length bs)) (on (sym (ap (λ (x : Delivered). x.session) d.returned) i) (sym behind i) c.sent) false))
 
-    pub received_part : (r.used ≡ length bs → ⊥) → Passes received bs c out None (take c.due out ++ (ys ++ post))
-    received_part f = record { within = tt; on = λ on. taken_on on ∙ rw (ne_eqb r.used (length bs) f) }
+    carried_if : (t : Bool) (x : Course) (due : List ℕ) (on : Session → List ℕ → ℕ → Bool) → cond t (on x.session (take x.due due) x.sent) false ≡ carried t x due on
+    carried_if true x due on = refl
+    carried_if false x due on = refl
 
-    pub received_whole : r.used ≡ length bs → Passes received bs c out (Some (course r.session (c.due + r.sent) c.sent)) (take c.due out ++ (ys ++ post))
-    received_whole e =
+    pub received_taken : Typed r.session → Passes received bs c out (eqb r.used (length bs)) (course r.session (c.due + r.sent) c.sent) (take c.due out ++ (ys ++ post))
+    received_taken y =
         let front : length (take c.due out) ≡ c.due = length-take-le c.due out w.1 in
         let inside = d.inside in
         record {
-          within = (omega (arith, w.0), omega (arith, long, inside, length-append (take c.due out) (ys ++ post), length-append ys post, front));
-          on = λ on. taken_on on ∙ rw (eq-eqb r.used (length bs) e);
+          within = λ z. ((omega (arith, w.0), omega (arith, long, inside, length-append (take c.due out) (ys ++ post), length-append ys post, front)), y);
+          on = λ on. taken_on on ∙ carried_if (eqb r.used (length bs)) (course r.session (c.due + r.sent) c.sent) (take c.due out ++ (ys ++ post)) on;
         }

@@ -3,8 +3,8 @@ use Prim.Native.Nat.{ℕ, ◌+◌, ◌-◌, ◌≤◌, min, zero-le}
 use native.Mathlib.Omega.{arith}
 use mathlib.Core.Path.{◌≡◌, refl, ap, sym, ◌∙◌}
 use mathlib.Core.Bool.{Bool, true}
-use mathlib.Core.List.{List, ◌++◌}
-use lib.ListN.{length, take, drop, length-take, length-drop}
+use mathlib.Core.List.{List}
+use lib.ListN.{length, take, drop}
 use Rattle.std.specs.Prelude.{Ok, Err}
 use Rattle.protocol.specs.declared.AuthMethod.TheVariants.{NoAuth, UserPass, NoneAcceptable}
 use Rattle.protocol.specs.declared.Reply.{Reply}
@@ -75,10 +75,5 @@ pub nothing_sent : (b : List ℕ) (from : ℕ) (out : List ℕ) {n : ℕ} → n 
 unfolding overwrite
 nothing_sent b from out q = rw q
 
-pub sent_part : (b : List ℕ) (from n : ℕ) (out : List ℕ) → from + n ≤ length b → {p : List ℕ} → p ≡ take (from + n - from) (drop from b) → p ++ drop n out ≡ overwrite out 0 (part b from n)
-unfolding overwrite
-sent_part b from n out l q =
-    let z : from + n - from ≡ n = omega arith in
-    let m : length (part b from n) ≡ n = length-take n (drop from b) ∙ omega (arith, length-drop from b) in
-    let w : n ≡ 0 + length (part b from n) = omega (arith, m) in
-    (λ i. (q ∙ ap (λ (k : ℕ). take k (drop from b)) z) i ++ drop (w i) out)
+pub sent_part : (b : List ℕ) (from n : ℕ) (out : List ℕ) {out' : List ℕ} → out' ≡ overwrite out 0 (take (from + n - from) (drop from b)) → out' ≡ overwrite out 0 (part b from n)
+sent_part b from n out w = let z : from + n - from ≡ n = omega arith in w ∙ ap (λ (k : ℕ). overwrite out 0 (take k (drop from b))) z

@@ -15,7 +15,7 @@ use Rattle.protocol.specs.declared.SocksError.TheVariants.{HostTooLong, DnsFailu
 use Rattle.protocol.specs.Host.{strip}
 use Rattle.protocol.specs.AddressReading.{Destination, ipv4, ipv6, domain, destination_of}
 use Rattle.protocol.specs.Requests.{kind_of}
-use Rattle.protocol.specs.Opening.{refuse, is_empty, is_ipv6, is_none as no_value, is_announcing, first_four, asked4, check5, check4}
+use Rattle.protocol.specs.Opening.{refuse, is_empty, is_ipv6, is_announcing, asked4, check5, check4}
 use Rattle.address_text.specs.declared.ipv4.AddressText.{AddressText}
 use Rattle.address_text.specs.ipv4.Answers.{address_text}
 use Rattle.client_opening.proofs.host.Laws.{read_name}
@@ -55,7 +55,7 @@ module _ (host : List ℕ) (port : Port) (records : List Record) {read : Address
   checks5 config user password = rw (read_name host read e, stripped_empty host)
 
   pub checks4 : (local_dns : Bool)
-      → check_by4 local_dns (strip host) read.kind port (no_value (first_four records)) (is_announcing (asked4 local_dns records (destination_of (strip host)))) ≡ check4 (record { local_dns = local_dns; host = host; port = port; records = records })
+      → check_by4 local_dns (strip host) read.kind port records (is_announcing (asked4 local_dns records (destination_of (strip host)))) ≡ check4 (record { local_dns = local_dns; host = host; port = port; records = records })
   unfolding check4
   checks4 local_dns =
       let v : is_ipv6 (kind_of read.kind []) ≡ is_ipv6 (destination_of (strip host)) = ap (λ (t : AddressText). is_ipv6 (kind_of t.kind [])) e ∙ ipv6_kind (destination_of (strip host)) in

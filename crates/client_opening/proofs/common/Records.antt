@@ -1,9 +1,11 @@
 -- What preparing reads of its list of records is all that it asks of it.
-use Prim.Native.Nat.{ℕ}
+use Prim.Native.Nat.{ℕ, ◌<◌, ◌^◌}
+use native.Mathlib.Omega.{arith}
 use mathlib.Core.Path.{◌≡◌, refl, ap, ◌∙◌}
 use mathlib.Core.Bool.{Bool, true, false, cond, not, ◌&&◌, ◌||◌}
 use mathlib.Core.List.{List}
-use lib.ListN.{length}
+use lib.ListN.{length, take}
+use lib.Seq.{take_all}
 use lib.Dec.{ltb}
 use Rattle.std.specs.Prelude.{Option, None}
 use Rattle.protocol.specs.declared.Record.{Record}
@@ -15,7 +17,7 @@ use Rattle.protocol.specs.Host.{strip, all_allowed}
 use Rattle.protocol.specs.AddressReading.{Destination, ipv4, ipv6, domain, destination_of}
 use Rattle.protocol.specs.Opening.{V5, V4, first_record, first_four, refuse, is_empty, is_missing, is_name, is_ipv6, is_none, is_announcing, check5, check4, Opening, v5, v4, Credentials, asked5, asked4, credentials_if, port_number, opening5, opening4}
 use Rattle.lookup.specs.Chosen.{chosen_of, records_of}
-use Rattle.lookup.proofs.Firsts.{first_chosen, four_chosen}
+use Rattle.lookup.proofs.Firsts.{first_chosen, first_alone, four_chosen}
 use Rattle.client_opening.specs.host.Lookups.{looks_up}
 use Rattle.client_session.specs.declared.Prepared.{Prepared}
 use Rattle.client_session.specs.Calls.{prepared_by, prepare5, prepare4}
@@ -74,8 +76,14 @@ module _ (config : SocksConfig) (host : List ℕ) (port : Port) (user password :
       (under (config.proxy_auth && (ltb 255 (length user) || ltb 255 (length password))) CredentialTooLong _ _ _ _
       (last5 q rs (port_number port) config.local_dns (ltb 255 (length (strip host))) (destination_of (strip host)) (credentials_if config.proxy_auth user password) config.optimistic h))))
 
-  pub by_list5 : (c : Option Record) → c ≡ cond (looks_up config.local_dns host 255) (chosen_of false rs) None → prepare5 (given5 (records_of c)) ≡ prepare5 (given5 rs)
-  by_list5 c ec = by_first5 (records_of c) (λ z. ap (λ (l : Option Record). first_record (records_of l)) (ec ∙ ap (λ (b : Bool). cond b (chosen_of false rs) None) z) ∙ first_chosen rs)
+  pub by_choice5 : (c : Option Record) → c ≡ cond (looks_up config.local_dns host 255) (chosen_of false rs) None → prepare5 (given5 (records_of c)) ≡ prepare5 (given5 rs)
+  by_choice5 c ec = by_first5 (records_of c) (λ z. ap (λ (l : Option Record). first_record (records_of l)) (ec ∙ ap (λ (b : Bool). cond b (chosen_of false rs) None) z) ∙ first_chosen rs)
+
+  -- of the list cut short
+  pub by_list5 : (m : ℕ) (c : Option Record) → m ≡ cond (looks_up config.local_dns host 255) 1 0 → c ≡ chosen_of false (take m rs) → prepare5 (given5 (records_of c)) ≡ prepare5 (given5 rs)
+  by_list5 m c em ec = by_first5 (records_of c) (λ z.
+      let k : m ≡ 1 = em ∙ ap (λ (b : Bool). cond b 1 0) z in
+      ap (λ (l : Option Record). first_record (records_of l)) (ec ∙ ap (λ (n : ℕ). chosen_of false (take n rs)) k) ∙ first_chosen (take 1 rs) ∙ first_alone rs)
 
 module _ (local_dns : Bool) (host : List ℕ) (port : Port) (rs : List Record) where
   abbrev given4 : List Record → V4
@@ -90,5 +98,10 @@ module _ (local_dns : Bool) (host : List ℕ) (port : Port) (rs : List Record) w
       (under (is_ipv6 (destination_of (strip host))) IpV6 _ _ _ _
       (last4 q rs (port_number port) local_dns (ltb 1014 (length (strip host))) (destination_of (strip host)) h))))
 
-  pub by_list4 : (c : Option Record) → c ≡ cond (looks_up local_dns host 1014) (chosen_of true rs) None → prepare4 (given4 (records_of c)) ≡ prepare4 (given4 rs)
-  by_list4 c ec = by_first4 (records_of c) (λ z. ap (λ (l : Option Record). first_four (records_of l)) (ec ∙ ap (λ (b : Bool). cond b (chosen_of true rs) None) z) ∙ four_chosen rs)
+  pub by_choice4 : (c : Option Record) → c ≡ cond (looks_up local_dns host 1014) (chosen_of true rs) None → prepare4 (given4 (records_of c)) ≡ prepare4 (given4 rs)
+  by_choice4 c ec = by_first4 (records_of c) (λ z. ap (λ (l : Option Record). first_four (records_of l)) (ec ∙ ap (λ (b : Bool). cond b (chosen_of true rs) None) z) ∙ four_chosen rs)
+
+  pub by_list4 : (m : ℕ) (c : Option Record) → length rs < 2 ^ 64 → m ≡ cond (looks_up local_dns host 1014) 0xFFFFFFFFFFFFFFFF 0 → c ≡ chosen_of true (take m rs) → prepare4 (given4 (records_of c)) ≡ prepare4 (given4 rs)
+  by_list4 m c h em ec = by_first4 (records_of c) (λ z.
+      let k : m ≡ 0xFFFFFFFFFFFFFFFF = em ∙ ap (λ (b : Bool). cond b 0xFFFFFFFFFFFFFFFF 0) z in
+      ap (λ (l : Option Record). first_four (records_of l)) (ec ∙ ap (λ (n : ℕ). chosen_of true (take n rs)) k ∙ ap (chosen_of true) (take_all 0xFFFFFFFFFFFFFFFF rs (omega arith))) ∙ four_chosen rs)

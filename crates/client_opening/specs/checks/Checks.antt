@@ -7,7 +7,7 @@ use Rattle.protocol.specs.declared.AddressKind.{AddressKind}
 use Rattle.protocol.specs.declared.Record.{Record}
 use Rattle.protocol.specs.declared.SocksConfig.{SocksConfig}
 use Rattle.protocol.specs.Requests.{kind_of}
-use Rattle.protocol.specs.Opening.{refuse, is_empty, is_missing, is_name, is_ipv6, is_none, first_record}
+use Rattle.protocol.specs.Opening.{refuse, is_empty, is_missing, is_name, is_ipv6, is_none, first_record, first_four}
 
 -- refused first, for a host without its brackets: no host, a byte that no host has, no port
 abbrev pub check_shared : List ℕ → Port → Answer → Answer
@@ -24,8 +24,8 @@ check_by5 config text kind port user password records =
     (refuse (config.proxy_auth && (ltb 255 (length user) || ltb 255 (length password))) CredentialTooLong
     (check_name (is_name (kind_of kind [])) text 255 config.local_dns (is_none (first_record records)) Accepted))
 
--- over v4 by whether no record serves, and whether what is asked for announces a name
-abbrev pub check_by4 : Bool → List ℕ → AddressKind → Port → Bool → Bool → Answer
-check_by4 local_dns text kind port none announcing =
+-- over v4 also by whether what is asked for announces a name
+abbrev pub check_by4 : Bool → List ℕ → AddressKind → Port → List Record → Bool → Answer
+check_by4 local_dns text kind port records announcing =
     check_shared text port
-    (refuse (is_ipv6 (kind_of kind [])) IpV6 (check_name (is_name (kind_of kind [])) text 1014 local_dns none (refuse announcing AnnouncesName Accepted)))
+    (refuse (is_ipv6 (kind_of kind [])) IpV6 (check_name (is_name (kind_of kind [])) text 1014 local_dns (is_none (first_four records)) (refuse announcing AnnouncesName Accepted)))

@@ -2,19 +2,17 @@
 use Prim.Native.Nat.{ℕ}
 use mathlib.Core.Path.{◌≡◌, refl, ap, sym, ◌∙◌}
 use mathlib.Core.Bool.{Bool, true, false, cond}
-use mathlib.Core.List.{List, [], ◌∷◌}
+use mathlib.Core.List.{List, []}
 use lib.ListN.{length, replicate}
 use Rattle.protocol.specs.declared.AddressKind.{AddressKind}
 use Rattle.protocol.specs.declared.AddressKind.TheVariants.{Ipv4, Ipv6, Domain}
-use Rattle.std.specs.Prelude.{Option, None, Some, is_none}
-use Rattle.protocol.specs.declared.Family.{Family}
-use Rattle.protocol.specs.declared.Family.TheVariants.{Four, Six}
+use Rattle.std.specs.Prelude.{Option, None}
 use Rattle.protocol.specs.declared.Record.{Record}
 use Rattle.protocol.specs.Answers.{Answer, Refused, Port}
 use Rattle.protocol.specs.declared.SocksError.{SocksError}
 use Rattle.protocol.specs.Host.{strip}
 use Rattle.protocol.specs.AddressReading.{destination_of}
-use Rattle.protocol.specs.Opening.{first_four, is_none as no_value, announces, is_announcing, v4, port_number, opening4}
+use Rattle.protocol.specs.Opening.{announces, is_announcing, v4, port_number, opening4}
 use Rattle.address_text.specs.declared.ipv4.AddressText.{AddressText}
 use Rattle.address_text.specs.ipv4.Answers.{address_text}
 use Rattle.lookup.specs.Chosen.{chosen_of, records_of}
@@ -43,21 +41,12 @@ pub sixteen_silent : (bs : List ℕ) → length bs ≡ 16 → false ≡ announce
 unfolding announces
 sixteen_silent bs l = rw l
 
-none_four : (chosen : Option Record) → is_none (chosen_of true (records_of chosen)) ≡ no_value (first_four (records_of chosen))
-unfolding first_four
-none_four None = refl
-none_four (Some r) = go r.family
-  where
-    go : (f : Family) → let q : Record = record { family = f; address = r.address } in is_none (chosen_of true (q ∷ [])) ≡ no_value (first_four (q ∷ []))
-    go Four = refl
-    go Six = refl
-
 module _ (local_dns : Bool) (host : List ℕ) (read : AddressText) (port : Port) (chosen : Option Record) where
   abbrev wanted : AddressText
   wanted = asked_text read (cond local_dns (chosen_of true (records_of chosen)) None)
 
   abbrev answer : List ℕ → Bool → Answer
-  answer text announcing = check_by4 local_dns text read.kind port (is_none (chosen_of true (records_of chosen))) announcing
+  answer text announcing = check_by4 local_dns text read.kind port (records_of chosen) announcing
 
   -- what is returned, by the host without its brackets
   abbrev returned : Prepared
@@ -80,5 +69,4 @@ module _ (local_dns : Bool) (host : List ℕ) (read : AddressText) (port : Port)
   unfolding prepare4 opening4
   prepares4 e p q =
       let d = asks4 (strip host) local_dns chosen e in
-      let n : (b : Bool) → check_by4 local_dns (strip host) read.kind port (is_none (chosen_of true (records_of chosen))) b ≡ check_by4 local_dns (strip host) read.kind port (no_value (first_four (records_of chosen))) b = λ b. ap (λ (y : Bool). check_by4 local_dns (strip host) read.kind port y b) (none_four chosen) in
-      p ∙ q ∙ (λ i. prepared_by (((λ j. answer (strip host) (is_announcing (d j))) ∙ n _ ∙ checks4 host port (records_of chosen) e local_dns) i) (v4 (d i) (port_number port)))
+      p ∙ q ∙ (λ i. prepared_by (((λ j. answer (strip host) (is_announcing (d j))) ∙ checks4 host port (records_of chosen) e local_dns) i) (v4 (d i) (port_number port)))

@@ -60,6 +60,10 @@ escaped_first s =
     go false false b q = refl
     go false true b q = rw q (behind_mark (is_hex (byte s 1)) (is_hex (byte s 2)) (hex_value (byte s 1) * 16 + hex_value (byte s 2)))
 
+pub percent_reserved : unreserved 0x25 ≡ false
+unfolding unreserved
+percent_reserved = refl
+
 pub inside_escaped : Inside (λ u. 0) escaped_of
 unfolding escaped_of
 inside_escaped =

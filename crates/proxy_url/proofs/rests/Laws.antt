@@ -110,6 +110,10 @@ abbrev pub later : {A : Type 0} → ℕ → Result A ℕ → Result A ℕ
 later n (Ok v) = Ok v
 later n (Err m) = Err (max n m)
 
+pub later_whole : {A : Type 0} (n : ℕ) (r : Result A ℕ) → ((m : ℕ) → r ≡ Err m → ⊥) → later n r ≡ r
+later_whole n (Ok v) f = refl
+later_whole n (Err m) f = absurd (f m refl)
+
 module _ (s : List ℕ) where
   plain_authority : {r : Endpoint} → ending endpoint_coded (plain_of s) ≡ Ok r → ◌≡◌ {A = Result Authority ℕ} (Ok (record { credentials = None; endpoint = r })) (ending authority_coded (plain_of s))
   unfolding plain_of map

@@ -4,11 +4,11 @@ use lib.Dec.{eqb}
 use Rattle.captures.proofs.walk.Rows.{goes_on, unlawful, over}
 use Rattle.captures.proofs.walk.walk.Goals as goal
 
-pub returns-in_default-pass : goal.returns-in_default-pass
-returns-in_default-pass c = unlawful c.loop-entry.invariant c.in-Some.entry.behind.now c.in-Some.ensures.entry c.in_default-pass.ensures
+pub returns-then-not-pass : goal.returns-then-not-pass
+returns-then-not-pass c = unlawful c.loop-entry.invariant c.in-Some.entry.behind.now c.in-Some.ensures.entry c.if-not-pass.true c.pass.ensures
 
 pub loop-entry-preserved : goal.loop-entry-preserved
-loop-entry-preserved c = goes_on c.loop-entry.invariant c.in-Some.entry.behind.now c.in-Some.ensures.entry c.in-Some-pass.ensures
+loop-entry-preserved c = goes_on c.loop-entry.invariant c.in-Some.entry.behind.now c.in-Some.ensures.entry c.if-not-pass.false c.pass.ensures
 
 pub returns-then-is_open : goal.returns-then-is_open
 returns-then-is_open c es q =

@@ -11,5 +11,5 @@ use Rattle.client_opening.proofs.checks.check4.Goals as goal
 pub returns-in_err-check_name : goal.returns-in_err-check_name
 returns-in_err-check_name c =
     let a = c.args in
-    let z = stops (is_name (kind_of a.kind [])) a.text.now 1014 a.local_dns a.none (refuse a.announcing AnnouncesName Accepted) {x = c.in_err-check_name.field-0.0} (sym c.check_name.ensures ∙ c.in_err-check_name.was) in
+    let z = stops (is_name (kind_of a.kind [])) a.text.now 1014 a.local_dns c.finds_no_four.result (refuse a.announcing AnnouncesName Accepted) {x = c.in_err-check_name.field-0.0} (sym c.check_name.ensures ∙ c.in_err-check_name.was) in
     search rules

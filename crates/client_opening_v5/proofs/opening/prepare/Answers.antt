@@ -8,4 +8,4 @@ returns c =
     let a = c.args in
     let e = c.read_host-read.ensures in
     let l = c.looks_up.ensures e in
-    c.prepare_read.ensures e ∙ by_list5 a.config a.host.now a.port a.user.now a.password.now a.records.now _ (search rules)
+    c.prepare_read.ensures e ∙ by_list5 a.config a.host.now a.port a.user.now a.password.now a.records.now _ _ (search rules) c.choose-chosen.ensures

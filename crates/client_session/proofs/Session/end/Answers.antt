@@ -1,9 +1,12 @@
-use Rattle.std.proofs.Common.{ap, sym, ◌∙◌}
-use Rattle.client_session.proofs.Deliveries.{end_call, ends_as}
+use Rattle.std.proofs.Common.{sym, ap, ◌∙◌}
+use Rattle.client_session.proofs.Deliveries.{ended_at, ends_by}
 use Rattle.client_session.proofs.Session.end.Goals as goal
+use Rattle.client_session.proofs.Session.end.Goals.{in-Ok, in-Err}
 
-pub returns-in-Ok : goal.returns-in-Ok
-returns-in-Ok c = ap (end_call c.args.self) (sym c.in-Ok.is) ∙ ends_as c.args.self c.end.ensures
-
-pub returns-in-Err : goal.returns-in-Err
-returns-in-Err c = ap (end_call c.args.self) (sym c.in-Err.is) ∙ ends_as c.args.self c.end.ensures
+pub returns : goal.returns
+returns c =
+    let s = c.args.self in
+    ends_by s c.end.ensures (elim c.match-end.branch [
+      | in-Ok w ↦ w.answer-is ∙ sym (ap (ended_at s) w.in-Ok.is)
+      | in-Err w ↦ w.answer-is ∙ sym (ap (ended_at s) w.in-Err.is)
+    ])

@@ -1,12 +1,12 @@
-use Rattle.proxy_session.proofs.Laws.{delivers}
+use mathlib.Core.Path.{sym, ap, ◌∙◌}
+use Rattle.proxy_session.proofs.Laws.{taken_by, delivers_by}
 use Rattle.proxy_session.proofs.Server.deliver.Goals as goal
+use Rattle.proxy_session.proofs.Server.deliver.Goals.{in-Ok, in-Err}
 
-pub returns-in-Ok : goal.returns-in-Ok
-returns-in-Ok c =
+pub returns : goal.returns
+returns c =
     let a = c.args in
-    delivers a.self a.piece.now a.out.now (rw (c.credentials-credentials.ensures.setup, c.in-Ok.is) at c.receive.ensures)
-
-pub returns-in-Err : goal.returns-in-Err
-returns-in-Err c =
-    let a = c.args in
-    delivers a.self a.piece.now a.out.now (rw (c.credentials-credentials.ensures.setup, c.in-Err.is) at c.receive.ensures)
+    delivers_by a.self a.piece.now a.out.now (rw (c.text.ensures.text, c.text-2.ensures.text) at c.receive.ensures) (elim c.match-receive.branch [
+      | in-Ok w ↦ w.answer-is ∙ sym (ap (taken_by a.self) w.in-Ok.is)
+      | in-Err w ↦ w.answer-is ∙ sym (ap (taken_by a.self) w.in-Err.is)
+    ])
