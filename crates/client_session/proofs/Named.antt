@@ -1,5 +1,5 @@
 -- F-1: what a session that is open hands out of its bound address, and one that is not.
-use Rattle.std.proofs.Common.{◌≡◌, ℕ, min, cond, leb, ◌++◌, drop, Bool, true, false, ◌↔◌, List, length, take, sym, refl, ap, ◌∙◌, true≢false, arith, Result, Err}
+use Rattle.std.proofs.Common.{◌≡◌, ℕ, min, cond, leb, ◌++◌, drop, Bool, true, false, ◌↔◌, List, length, take, sym, refl, ap, ◌∙◌, true≢false, arith, Result, Ok, Err}
 use Rattle.protocol.specs.declared.Address.{Address}
 use Rattle.protocol.specs.declared.Bound.{Bound}
 use Rattle.protocol.specs.declared.SocksError.{SocksError}
@@ -12,7 +12,7 @@ use Rattle.client_stages.specs.declared.due.Stage.{Stage}
 use Rattle.client_stages.specs.declared.due.Stage.TheVariants.{Awaiting, Open, Failed}
 use Rattle.client_stages.specs.due.Stages.{view_at}
 use Rattle.address_format.specs.endpoint.Text.{bound_text}
-use Rattle.protocol.specs.Answers.{Accepted, Refused}
+use Rattle.protocol.specs.Answers.{Answer, Accepted, Refused}
 use Rattle.address_format.specs.endpoint.Written.{TextCall, unwritten, write_text, with_length, TextResult}
 use Rattle.client_session.specs.declared.Session.{Session}
 use Rattle.client_stages.specs.outcome.Told.{is_open}
@@ -54,7 +54,12 @@ module _ (s : Session) {o : Bool} (e : o ≡ is_open s.stage) where
   unfolding write_bound
   written q buffer p w = rw (sym e ∙ q, ← p) w
 
--- a text that is refused has no length
+-- a text that is accepted has its length
+pub accepted_length : (a : Answer) (n : ℕ) {m : ℕ} → Ok m ≡ with_length a n → (a ≡ Accepted) × (n ≡ m)
+accepted_length Accepted n h = (refl, cc)
+accepted_length (Refused e) n h = absurd (cc)
+
+-- and one that is refused none
 abbrev texted : List ℕ → List ℕ → Bool → Bool → TextCall
 texted t buffer a b = cond a (cond b (record { answer = Accepted; len = length t; buffer = t ++ drop (length t) buffer }) (unwritten ShortText buffer)) (unwritten NotOpen buffer)
 

@@ -1,5 +1,5 @@
 -- F-13: handshakes run by the session's calls, piece by piece and one after the other.
-use Rattle.std.proofs.Common.{◌≡◌, ℕ, zero, suc, ◌+◌, ◌-◌, ◌<◌, ◌≤◌, min, Bool, true, false, cond, leb, List, [], ◌∷◌, length, take, drop, replicate, sym, refl, ap, ◌∙◌, subst, arith, length-drop, drop-drop, ne_eqb, leb-false, leb-true}
+use Rattle.std.proofs.Common.{◌≡◌, ℕ, zero, suc, ◌+◌, ◌-◌, ◌%◌, ◌^◌, ◌<◌, ◌≤◌, min, Bool, true, false, cond, leb, List, [], ◌∷◌, length, take, drop, replicate, sym, refl, ap, ◌∙◌, subst, arith, length-drop, ne_eqb, leb-false, leb-true}
 use Rattle.std.specs.Prelude.{Some}
 use Rattle.client_session.specs.declared.Session.{Session}
 use Rattle.client_session.specs.declared.Started.{Started}
@@ -68,6 +68,14 @@ pieces_more single s bs p ps s' any e =
         Pieces single q.state (drop q.len bs) ps s' → Pieces single s bs (take q.len bs ∷ ps) s')
     go true (c, q) = (single_more bs ps any c, q)
     go false c = drawn_more s bs ps s' any c
+
+-- ---- what is counted of no bytes
+
+same_count : (x : ℕ) → x < 2 ^ 64 → x ≡ (x + 0) % 2 ^ 64
+same_count x h = omega arith
+
+pub none_added : (t : Tally) (s : List ℕ) {n state : ℕ} → n ≡ 0 → t.sent < 2 ^ 64 → t.sum < 2 ^ 64 → record { state = state; opened = t.opened; sent = t.sent; sum = t.sum } ≡ added t (take n s) state
+none_added t s {state = state} e a b = rw e (λ i. record { state = state; opened = t.opened; sent = same_count t.sent a i; sum = same_count t.sum b i })
 
 -- ---- replies fed piece by piece
 

@@ -1,13 +1,13 @@
 -- Which lists are byte strings, and which of them are the same.
 use Prim.Native.Nat.{ℕ, zero, suc, ◌≤◌, zero-le}
-use mathlib.Core.Path.{◌≡◌, refl}
+use mathlib.Core.Path.{◌≡◌, refl, ap}
 use mathlib.Core.Logic.{◌↔◌, ◌⊎◌, inl, inr}
 use mathlib.Core.Bool.{Bool, true, false, cond, ◌&&◌, false≢true}
 use mathlib.Core.List.Memᴰ
 use mathlib.Core.List.{List, [], ◌∷◌, ◌++◌, Memᴰ}
-use lib.ListN.{take, drop, replicate, take-append-drop}
+use lib.ListN.{length, take, drop, replicate, take-append-drop}
 use lib.Dec.{leb, eqb}
-use borrow.Author.Tests.{leb-true, eq-eqb, eqb-true}
+use borrow.Author.Tests.{leb-true, eq-eqb, ne_eqb, eqb-true}
 use Rattle.protocol.specs.Bytes.{Bytes, BytePieces, same}
 use Rattle.talk.specs.Tunnel.{Receiver, Delivery, lends, joined}
 
@@ -79,6 +79,14 @@ joined_bytes K (d ∷ ds) y = bytes_join (cond (lends K d) d.piece []) (joined K
 
 -- ---- the same byte strings
 
+pub heads_differ : {x y : ℕ} (xs ys : List ℕ) → (x ≡ y → ⊥) → same (x ∷ xs) (y ∷ ys) ≡ false
+unfolding same
+heads_differ {x} {y} xs ys f = rw (ne_eqb x y f)
+
+pub heads_same : {x y : ℕ} (xs ys : List ℕ) → x ≡ y → same (x ∷ xs) (y ∷ ys) ≡ same xs ys
+unfolding same
+heads_same {x} {y} xs ys e = rw (eq-eqb x y e)
+
 pub same_equal : (xs ys : List ℕ) → same xs ys ≡ true → xs ≡ ys
 unfolding same
 same_equal [] [] q = refl
@@ -90,6 +98,13 @@ pub same_self : (xs : List ℕ) → same xs xs ≡ true
 unfolding same
 same_self [] = refl
 same_self (x ∷ xs) = rw (eq-eqb x x refl) (same_self xs)
+
+pub same_not : (xs ys : List ℕ) → (length xs ≡ length ys → ⊥) → false ≡ same xs ys
+same_not xs ys f = go (same xs ys) refl
+  where
+    go : (t : Bool) → same xs ys ≡ t → false ≡ t
+    go false q = refl
+    go true q = absurd (f (ap length (same_equal xs ys q)))
 
 pub same_just : (xs ys : List ℕ) → same xs ys ≡ true ↔ (xs ≡ ys)
 same_just xs ys = (same_equal xs ys, λ e. rw e (same_self ys))

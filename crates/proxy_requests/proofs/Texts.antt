@@ -20,6 +20,15 @@ use Rattle.proxy_spec.specs.Side.{read_text, read_name}
 use Rattle.talk.specs.Decision.{Decision, undecided, decided, good, bad}
 use Rattle.proxy_requests.specs.Runs.{run_of, read_within}
 
+-- ---- a test of a byte, which the code has as v
+
+module _ (k : ℕ) {v b : ℕ} (e : v ≡ b) where
+  pub is : v ≡ k → eqb b k ≡ true
+  is t = eq-eqb b k (sym e ∙ t)
+
+  pub is_not : (v ≡ k → ⊥) → eqb b k ≡ false
+  is_not t = ne_eqb b k (λ q. t (e ∙ q))
+
 -- ---- the loop: behind i bytes of the run, the rest of the run is ahead
 
 run_none : (most : ℕ) → run_of most [] ≡ 0
@@ -137,10 +146,25 @@ module _ (fewest most : ℕ) (bs : List ℕ) (n : ℕ) (q : n ≡ run_of most bs
     stands = get_or_from_slice_get bs n b 0 g
 
     pub text_long : (b ≡ 0x00 → ⊥) → decided (n + 1) (bad Malformed) ≡ read_within fewest (text_in most bs)
-    text_long e = rw (seen, lt-leb (length bs) n k, ne_eqb (byte bs n) 0x00 (λ h. e (sym stands ∙ h)), add-one n)
+    text_long e = rw (seen, lt-leb (length bs) n k, is_not 0x00 (sym stands) e, add-one n)
 
     pub text_few : b ≡ 0x00 → n < fewest → decided (n + 1) (bad Malformed) ≡ read_within fewest (text_in most bs)
-    text_few e l = rw (seen, lt-leb (length bs) n k, eq-eqb (byte bs n) 0x00 (stands ∙ e), lt-leb fewest n l, add-one n)
+    text_few e l = rw (seen, lt-leb (length bs) n k, is 0x00 (sym stands) e, lt-leb fewest n l, add-one n)
 
     pub text_whole : b ≡ 0x00 → fewest ≤ n → decided (n + 1) good ≡ read_within fewest (text_in most bs)
-    text_whole e l = rw (seen, lt-leb (length bs) n k, eq-eqb (byte bs n) 0x00 (stands ∙ e), le-leb fewest n l, add-one n)
+    text_whole e l = rw (seen, lt-leb (length bs) n k, is 0x00 (sym stands) e, le-leb fewest n l, add-one n)
+
+-- ---- a user id, and a name, which has a byte
+
+pub as_text : (seen : Seen ℕ) {r : Decision SocksError} → r ≡ read_within 0 seen → r ≡ read_text seen
+as_text short e = e
+as_text (wrong n) e = e
+as_text (unknown n) e = e
+as_text (whole n m) e = rw (leb-zero m) at e
+
+pub as_name : (seen : Seen ℕ) {r : Decision SocksError} → r ≡ read_within 1 seen → r ≡ read_name seen
+as_name short e = e
+as_name (wrong n) e = e
+as_name (unknown n) e = e
+as_name (whole n zero) e = e
+as_name (whole n (suc m)) e = rw (leb-suc-suc 0 m, leb-zero m) at e

@@ -5,7 +5,7 @@ use native.Mathlib.Omega.{arith}
 use mathlib.Core.Path.{◌≡◌, refl, ap, sym, ◌∙◌}
 use mathlib.Core.Bool.{Bool, true, false, ◌||◌, true≢false}
 use mathlib.Core.List.{List, [], ◌∷◌, ◌++◌}
-use lib.ListN.{length, take, drop, length-take}
+use lib.ListN.{length, take, drop}
 use lib.Dec.{ltb}
 use borrow.Author.Tests.{le-leb, lt-leb, ltb-false}
 use Rattle.protocol.specs.Answers.{Answer, Accepted, Refused}
@@ -193,6 +193,14 @@ destination_is s e q h = rw (← e, q, h)
 -- of the hold as much as there is
 pub held_is : (s : Server) {n : ℕ} → n ≡ min s.held 1014 → length s.hold ≡ 1014 → take n s.hold ≡ held_bytes s
 held_is s q l = rw (q, ← l) (take_min s.held s.hold)
+
+-- ---- what is lent of a credential's array and of the hold
+
+pub inside : (n k : ℕ) (l : List ℕ) → n ≡ k → k < 256 → length l ≡ 255 → n ≤ length l
+inside n k l e o q = omega arith
+
+pub held_inside : (n k : ℕ) (l : List ℕ) → n ≡ min k 1014 → length l ≡ 1014 → n ≤ length l
+held_inside n k l e q = omega arith
 
 -- ---- what it wants
 

@@ -11,12 +11,12 @@ use Rattle.protocol.specs.declared.Outcome.TheVariants as outcomes
 use Rattle.protocol.specs.declared.SocksError.TheVariants.{NotOpen}
 use Rattle.protocol.specs.declared.SocksError.{SocksError}
 use Rattle.protocol.specs.Numbers.{number}
-use Rattle.std.specs.Prelude.{Result, Err, IsOk}
+use Rattle.std.specs.Prelude.{Result, Ok, Err, IsOk}
 use Rattle.address_format.specs.endpoint.Written.{TextResult}
 use Rattle.client_stages.specs.outcome.Told.{is_open}
 use Rattle.client_session.specs.declared.Session.{Session}
 use Rattle.client_session.specs.Session.{outcome, bound, write_bound}
-use Rattle.client_session.proofs.Named.{open_just, refused_empty}
+use Rattle.client_session.proofs.Named.{open_just, accepted_length, refused_empty}
 use Rattle.raw_numbers.specs.Numbers.{kind_number}
 use Rattle.raw_session.specs.declared.RawSession.{RawSession}
 use Rattle.raw_session.specs.declared.RawOutcome.{RawOutcome}
@@ -32,6 +32,12 @@ module _ (raw : RawSession) {s : Session} (e : s ≡ session_of raw) where
   says_bound {a} {k} p q = ap (λ (n : ℕ). record { port = a.port; kind = n; len = a.len; bytes = a.bytes }) q ∙ ap address_of (p ∙ ap bound e)
 
   module _ (text text' : List ℕ) (w : Result ℕ SocksError) (h : TextResult (write_bound s text) w text') where
+    pub says_text : {n : ℕ} → w ≡ Ok n → Tells (write_bound (session_of raw) text) (record { len = n; answer = 0 }) text'
+    says_text {n} p =
+        let k : TextResult (write_bound (session_of raw) text) (Ok n) text' = rw (e, p) at h in
+        let t = accepted_length (write_bound (session_of raw) text).answer (write_bound (session_of raw) text).len k.returned in
+        record { returned = rw (t.0, t.1); buffer = k.buffer }
+
     pub says_refusal : {x : SocksError} {n : ℕ} → w ≡ Err x → n ≡ number x → Tells (write_bound (session_of raw) text) (record { len = 0; answer = n }) text'
     says_refusal {x} p q =
         let k : TextResult (write_bound (session_of raw) text) (Err x) text' = rw (e, p) at h in

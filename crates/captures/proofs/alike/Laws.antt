@@ -14,7 +14,7 @@ use Rattle.captures_spec.specs.declared.Direction.{Direction}
 use Rattle.captures_spec.specs.Captures.{sent, received, Entry, entry, joined}
 use Rattle.captures_spec.specs.Reading.{ahead, row_of, alike}
 use Rattle.captures.specs.Coded.{Remain, part}
-use Rattle.captures.proofs.entries.Laws.{behind_ahead, row_end}
+use Rattle.captures.proofs.entries.Laws.{behind_ahead, row_end, row_some}
 
 -- ---- one direction
 
@@ -59,6 +59,10 @@ module _ (d : Direction) {bytes behind : List ℕ} where
         let n = emptied all m in
         let (rest, r, z) = behind_ahead (entry d' bs) (row_of beyond) n.entries (sym q ∙ n.is_row) in
         record { entries = rest; is_row = r; are = n.are ∙ ap (joined d) z }
+
+-- where there is an entry, its two first bytes are there
+pub two_more : (d : Direction) (behind : List ℕ) → (behind ≡ [] → ⊥) → ((bs : List ℕ) × Remain d [] behind bs) → 2 ≤ length behind
+two_more d behind f (bs, m) = (row_some behind f m.entries m.is_row).two
 
 pub part_few : (d d' : Direction) (bs : List ℕ) → length (part d d' bs) ≤ length bs
 part_few sent sent bs = le_refl (length bs)

@@ -10,9 +10,9 @@ use mathlib.Core.List.{List, [], ◌∷◌, ◌++◌}
 use lib.ListN.{length, get_or, take, drop, replicate, length-append, length-take, length-drop, length-replicate}
 use lib.Seq.{length-take-le, take-append-le, take-append-add, take-append_seam}
 use lib.Dec.{eqb, lit≤}
-use borrow.Author.Tests.{le-leb, lt-leb, eq-eqb, ne_eqb}
+use borrow.Author.Tests.{le-leb, lt-leb}
 use Rattle.protocol.specs.Bytes.{same}
-use Rattle.protocol.proofs.Bytes.{same_equal}
+use Rattle.protocol.proofs.Bytes.{heads_differ, heads_same, same_equal, same_not}
 use Rattle.protocol.specs.declared.Reply.TheVariants.{NegotiationRes, AuthenticationRes, ProxyRes, Response}
 use Rattle.protocol.specs.declared.SocksError.TheVariants.{Settled, OutOfOrder}
 use Rattle.client_stages.specs.declared.due.Stage.{Stage}
@@ -66,16 +66,14 @@ begins_short [] (x ∷ l) h k = refl
 begins_short (y ∷ m) (x ∷ l) h k = absurd (omega arith)
 
 pub begins_other : (bytes piece : List ℕ) → 1 ≤ length piece → 1 ≤ length bytes → (get_or piece 0 0 ≡ get_or bytes 0 0 → ⊥) → false ≡ begins_with bytes piece
-unfolding same
 begins_other bytes [] h k f = absurd (omega arith)
 begins_other [] (x ∷ l) h k f = absurd (omega arith)
-begins_other (y ∷ m) (x ∷ l) h k f = rw (ne_eqb x y f)
+begins_other (y ∷ m) (x ∷ l) h k f = sym (heads_differ l (take (length l) m) f)
 
 pub begins_on : (bytes piece : List ℕ) → 1 ≤ length piece → 1 ≤ length bytes → get_or piece 0 0 ≡ get_or bytes 0 0 → begins_with (rest_of bytes) (rest_of piece) ≡ begins_with bytes piece
-unfolding same
 begins_on bytes [] h k e = absurd (omega arith)
 begins_on [] (x ∷ l) h k e = absurd (omega arith)
-begins_on (y ∷ m) (x ∷ l) h k e = rw (rest_is x l, rest_is y m, eq-eqb x y e)
+begins_on (y ∷ m) (x ∷ l) h k e = rw (rest_is x l, rest_is y m) (sym (heads_same l (take (length l) m) e))
 
 pub rest_short : (l : List ℕ) → 1 ≤ length l → length (rest_of l) < length l
 rest_short [] h = absurd (omega arith)
@@ -103,6 +101,12 @@ module _ (c : Course) (bs out : List ℕ) (w : Within c out) where
           within = λ z. ((omega (arith, w.0, k, length-take (length bs) (drop c.sent (take c.due out)), length-drop c.sent (take c.due out), l), w.1), y);
           on = λ on. rw (begins ∙ e);
         }
+
+  -- fewer are due than were sent
+  pub sent_short : c.due - c.sent < length bs → Passes sent bs c out false c out
+  sent_short h =
+      let next = take (c.due - c.sent) (drop c.sent out) in
+      sent_other refl (sym (same_not bs (take (length bs) next) (λ e. omega (arith, e, length-take (length bs) next, length-take (c.due - c.sent) (drop c.sent out)))))
 
 -- ---- received bytes
 
@@ -165,7 +169,7 @@ module _ (c : Course) (bs out : List ℕ) (w : Within c out) where
   module _ (l : length out ≡ 1802) (h : c.due ≤ 1024) {r : Delivered} {ys : List ℕ} (post : List ℕ)
       (d : DeliverResult (deliver c.session bs (take (1802 - c.due) (drop c.due out))) bs r ys)
       (long : length (take c.due out ++ (ys ++ post)) ≡ length out) where
-    taken_on : (on : Session → List ℕ → ℕ → Bool) → passed received bs c.session (take c.due out) c.sent on
+    pub taken_on : (on : Session → List ℕ → ℕ → Bool) → passed received bs c.session (take c.due out) c.sent on
         ≡ cond (eqb r.used (length bs)) (on r.session (take (c.due + r.sent) (take c.due out ++ (ys ++ post))) c.sent) false
     unfolding taking
     taken_on on =
@@ -186,11 +190,16 @@ module _ (c : Course) (bs out : List ℕ) (w : Within c out) where
     carried_if true x due on = refl
     carried_if false x due on = refl
 
-    pub received_taken : Typed r.session → Passes received bs c out (eqb r.used (length bs)) (course r.session (c.due + r.sent) c.sent) (take c.due out ++ (ys ++ post))
-    received_taken y =
+    -- whether the entry was lawful or not
+    pub received_within : Within (course r.session (c.due + r.sent) c.sent) (take c.due out ++ (ys ++ post))
+    received_within =
         let front : length (take c.due out) ≡ c.due = length-take-le c.due out w.1 in
         let inside = d.inside in
+        (omega (arith, w.0), omega (arith, long, inside, length-append (take c.due out) (ys ++ post), length-append ys post, front))
+
+    pub received_taken : Typed r.session → Passes received bs c out (eqb r.used (length bs)) (course r.session (c.due + r.sent) c.sent) (take c.due out ++ (ys ++ post))
+    received_taken y =
         record {
-          within = λ z. ((omega (arith, w.0), omega (arith, long, inside, length-append (take c.due out) (ys ++ post), length-append ys post, front)), y);
+          within = λ z. (received_within, y);
           on = λ on. taken_on on ∙ carried_if (eqb r.used (length bs)) (course r.session (c.due + r.sent) c.sent) (take c.due out ++ (ys ++ post)) on;
         }

@@ -21,7 +21,8 @@ use Rattle.client_stages.specs.declared.due.Stage.{Stage}
 use Rattle.client_stages.specs.declared.due.Stage.TheVariants.{Awaiting, Open, Failed}
 use Rattle.client_stages.specs.due.Stages.{SideFed, rank}
 use Rattle.client_stages.specs.due.Parts.{part}
-use Rattle.client_stages.specs.due.Due.{due_after, due_from, still_due}
+use Rattle.client_stages.specs.declared.due.Due.{Due}
+use Rattle.client_stages.specs.due.Due.{due_after, due_judged, due_from, still_due}
 use Rattle.replies.specs.unread.Fewest.{fewest}
 use Rattle.client_stages.proofs.due.Sending.{still_after, part_on}
 use Rattle.client_delivery.specs.bound_address.Named.{last_of, Whole}
@@ -180,6 +181,10 @@ module _ {l : Lengths} {e₀ : Reply} {bytes : List ℕ} {begin place sent decid
 
 -- ---- a turn as the code makes it
 
+pub judged_small : (l : Lengths) (e : Reply) (v : Verdict) {r : Due} → r ≡ due_judged l e v → r.len ≤ 775
+judged_small l e Good q = rw q (omega (arith, still_after l e, still_small e))
+judged_small l e (Bad x) q = rw q zero-le
+
 module _ (e : Reply) (bytes : List ℕ) (place : ℕ) {d : Decision} (p : d ≡ decide e (drop place bytes)) {n : ℕ} {v : Verdict} (q : d ≡ Decided n v) where
   pub decided_inside : place ≤ length bytes → place + n ≤ length bytes
   decided_inside h = omega (arith, decided_within e (drop place bytes) n v (sym p ∙ q), length-drop place bytes)
@@ -233,13 +238,26 @@ some_is q = cc
 none_some : {a : Turn} → ◌≡◌ {A = Option Turn} None (Some a) → ⊥
 none_some q = let z : ◌≡◌ {A = ℕ} 0 1 = cc in omega arith
 
+module _ {l : Lengths} {e₀ : Reply} {bytes : List ℕ} where
+  -- a turn that reads a reply
+  pub going_on : {t t' : Turn} {e : Reply} → Going l e₀ bytes t.stage t.begin t.place t.sent t.decided → t.stage ≡ Awaiting e → turned l e t (decide e (drop t.place bytes)) ≡ Some t' → Going l e₀ bytes t'.stage t'.begin t'.place t'.sent t'.decided
+  going_on {t} {t'} {e} g s h = go (decide e (drop t.place bytes)) refl h
+    where
+      waits : Going l e₀ bytes (Awaiting e) t.begin t.place t.sent t.decided
+      waits = rw s at g
+
+      go : (d : Decision) → decide e (drop t.place bytes) ≡ d → turned l e t d ≡ Some t' → Going l e₀ bytes t'.stage t'.begin t'.place t'.sent t'.decided
+      go Undecided q h = absurd (none_some h)
+      go (Decided n Good) q h = rw (sym (some_is h)) (on_good e n q waits)
+      go (Decided n (Bad x)) q h = rw (sym (some_is h)) (rw (add-zero t.sent) (on_bad e n x q waits))
+
 module _ {l : Lengths} {e₀ : Reply} {bytes : List ℕ} {left : ℕ} where
   -- a reply was read
   pub loops_on : {t t' : Turn} {e : Reply} {r : Option Turn} → Loops l e₀ bytes t left → t.stage ≡ Awaiting e → r ≡ turned l e t (decide e (drop t.place bytes)) → r ≡ Some t' → {left' : ℕ} → left' ≡ left - 1 → Loops l e₀ bytes t' left'
   loops_on {t} {t'} {e} g s q h y = rw y (go (decide e (drop t.place bytes)) refl (sym q ∙ h))
     where
-      waits : Going l e₀ bytes (Awaiting e) t.begin t.place t.sent t.decided
-      waits = let z = g.going in rw s at z
+      goes : Going l e₀ bytes t'.stage t'.begin t'.place t'.sent t'.decided
+      goes = going_on g.going s (sym q ∙ h)
 
       few : rank (Awaiting e) ≤ left
       few = let z = g.ends in rw s at z
@@ -247,9 +265,9 @@ module _ {l : Lengths} {e₀ : Reply} {bytes : List ℕ} {left : ℕ} where
       go : (d : Decision) → decide e (drop t.place bytes) ≡ d → turned l e t d ≡ Some t' → Loops l e₀ bytes t' (left - 1)
       go Undecided q h = absurd (none_some h)
       go (Decided n Good) q h =
-          rw (sym (some_is h)) (record { going = on_good e n q waits; ends = omega (arith, few, rank_falls l e); most = omega (arith, g.most, few, rank_falls l e) })
+          record { going = goes; ends = rw (sym (some_is h)) (omega (arith, few, rank_falls l e)); most = rw (sym (some_is h)) (omega (arith, g.most, few, rank_falls l e)) }
       go (Decided n (Bad x)) q h =
-          rw (sym (some_is h)) (record { going = rw (add-zero t.sent) (on_bad e n x q waits); ends = zero-le; most = omega (arith, g.most, few, rank_falls l e) })
+          record { going = goes; ends = rw (sym (some_is h)) zero-le; most = rw (sym (some_is h)) (omega (arith, g.most, few, rank_falls l e)) }
 
   -- the reply is undecided
   pub loops_undecided : {t : Turn} {e : Reply} {r : Option Turn} → Loops l e₀ bytes t left → t.stage ≡ Awaiting e → r ≡ turned l e t (decide e (drop t.place bytes)) → r ≡ None → length (drop t.place bytes) ≤ 261
@@ -263,3 +281,7 @@ module _ {l : Lengths} {e₀ : Reply} {bytes : List ℕ} {left : ℕ} where
   -- no reply is awaited
   pub loops_settled : {t : Turn} → Loops l e₀ bytes t left → rank t.stage ≤ 0 → Worked l e₀ bytes t.stage t.begin t.place t.sent t.decided
   loops_settled {t} g z = going_last g.going (omega (arith, g.most)) (settled t.stage (drop t.place bytes) z)
+
+  -- no turn is left
+  pub loops_end : {t : Turn} → Loops l e₀ bytes t left → left ≤ 0 → Worked l e₀ bytes t.stage t.begin t.place t.sent t.decided
+  loops_end g z = loops_settled g (omega (arith, g.ends))

@@ -7,6 +7,7 @@ use native.Mathlib.Omega.{arith}
 use lib.ListN.{length}
 use lib.Dec.{ltb}
 use borrow.Author.Tests.{ne_eqb}
+use Rattle.std.specs.Prelude as std
 use Rattle.protocol.specs.Answers.{Answer, Port, Accepted, Refused}
 use Rattle.protocol.specs.declared.Record.{Record}
 use Rattle.protocol.specs.declared.SocksConfig.{SocksConfig}
@@ -15,9 +16,10 @@ use Rattle.protocol.specs.declared.SocksError.TheVariants.{HostTooLong, DnsFailu
 use Rattle.protocol.specs.Host.{strip}
 use Rattle.protocol.specs.AddressReading.{Destination, ipv4, ipv6, domain, destination_of}
 use Rattle.protocol.specs.Requests.{kind_of}
-use Rattle.protocol.specs.Opening.{refuse, is_empty, is_ipv6, is_announcing, asked4, check5, check4}
+use Rattle.protocol.specs.Opening.{refuse, is_empty, is_ipv6, is_none, is_announcing, first_record, asked4, check5, check4}
 use Rattle.address_text.specs.declared.ipv4.AddressText.{AddressText}
 use Rattle.address_text.specs.ipv4.Answers.{address_text}
+use Rattle.lookup.specs.Chosen.{records_of}
 use Rattle.client_opening.proofs.host.Laws.{read_name}
 use Rattle.client_opening.specs.checks.Checks.{check_name, check_by5, check_by4}
 
@@ -25,6 +27,10 @@ ipv6_kind : (d : Destination) → is_ipv6 (kind_of (address_text d).kind []) ≡
 ipv6_kind (ipv4 bs) = refl
 ipv6_kind (ipv6 bs) = refl
 ipv6_kind (domain s) = refl
+
+pub none_found : (c : std.Option Record) → std.is_none c ≡ is_none (first_record (records_of c))
+none_found std.None = refl
+none_found (std.Some r) = refl
 
 -- ---- what the parts of a check come to
 

@@ -1,5 +1,5 @@
--- What is asked for, as it was read or looked up, is what the definitions ask for.
-use Prim.Native.Nat.{ℕ}
+-- What is asked for, as it was read or looked up, is what the definitions ask for; and of what kind it is.
+use Prim.Native.Nat.{ℕ, ◌≤◌}
 use native.Mathlib.Omega.{arith}
 use mathlib.Core.Path.{◌≡◌, refl, ap, sym}
 use mathlib.Core.Bool.{Bool, true, false, cond}
@@ -7,12 +7,14 @@ use mathlib.Core.List.{List, [], ◌∷◌}
 use lib.ListN.{length, take, replicate, length-take}
 use lib.Seq.{take_at}
 use Rattle.std.specs.Prelude.{Option, None, Some}
+use Rattle.protocol.specs.declared.AddressKind.{AddressKind}
+use Rattle.protocol.specs.declared.AddressKind.TheVariants.{Ipv4, Ipv6, Domain}
 use Rattle.protocol.specs.declared.Family.{Family}
 use Rattle.protocol.specs.declared.Family.TheVariants.{Four, Six}
 use Rattle.protocol.specs.declared.Record.{Record}
 use Rattle.protocol.specs.AddressReading.{Destination, ipv4, ipv6, domain, destination_of}
-use Rattle.protocol.specs.Requests.{address, name}
-use Rattle.protocol.specs.Opening.{first_four, record_family, asked5, asked4}
+use Rattle.protocol.specs.Requests.{kind_of, address, name}
+use Rattle.protocol.specs.Opening.{is_name, is_ipv6, first_four, record_family, asked5, asked4}
 use Rattle.protocol.proofs.Destinations.{domain_is, ipv4_length}
 use Rattle.address_text.specs.declared.ipv4.AddressText.{AddressText}
 use Rattle.address_text.specs.ipv4.Answers.{address_text}
@@ -69,7 +71,48 @@ module _ (s : List ℕ) (l : Bool) (chosen : Option Record) where
       by_record b None = none (destination_of s) refl b
       by_record b (Some r) = go (destination_of s) refl b r.family r.address
 
+-- ---- its kind
+
+-- a name is asked for only if a name was read
+pub asked_name : (read : AddressText) (found : Option Record) → (asked_text read found).kind ≡ Domain → is_name (kind_of read.kind []) ≡ true
+asked_name read found = go read.kind found
+  where
+    go : (k : AddressKind) (c : Option Record) → (asked_text (record { kind = k; bytes = read.bytes }) c).kind ≡ Domain → is_name (kind_of k []) ≡ true
+    go Ipv4 None e = let z : ◌≡◌ {A = ℕ} 0 1 = cc in absurd (omega arith)
+    go Ipv4 (Some r) e = let z : ◌≡◌ {A = ℕ} 0 1 = cc in absurd (omega arith)
+    go Ipv6 None e = let z : ◌≡◌ {A = ℕ} 0 1 = cc in absurd (omega arith)
+    go Ipv6 (Some r) e = let z : ◌≡◌ {A = ℕ} 0 1 = cc in absurd (omega arith)
+    go Domain c e = refl
+
+-- over v4 an IPv6 address is asked for only if one was read
+pub asked_ipv6 : (read : AddressText) (l : Bool) (chosen : Option Record) → (asked_text read (cond l (chosen_of true (records_of chosen)) None)).kind ≡ Ipv6 → is_ipv6 (kind_of read.kind []) ≡ true
+asked_ipv6 read l chosen = by_record chosen
+  where
+    go : (k : AddressKind) (b : Bool) (f : Family) (bs : List ℕ) → let r : Record = record { family = f; address = bs } in
+        (asked_text (record { kind = k; bytes = read.bytes }) (cond b (chosen_of true (r ∷ [])) None)).kind ≡ Ipv6 → is_ipv6 (kind_of k []) ≡ true
+    go Ipv4 false f bs e = let z : ◌≡◌ {A = ℕ} 0 1 = cc in absurd (omega arith)
+    go Ipv4 true Four bs e = let z : ◌≡◌ {A = ℕ} 0 1 = cc in absurd (omega arith)
+    go Ipv4 true Six bs e = let z : ◌≡◌ {A = ℕ} 0 1 = cc in absurd (omega arith)
+    go Ipv6 b f bs e = refl
+    go Domain false f bs e = let z : ◌≡◌ {A = ℕ} 0 1 = cc in absurd (omega arith)
+    go Domain true Four bs e = let z : ◌≡◌ {A = ℕ} 0 1 = cc in absurd (omega arith)
+    go Domain true Six bs e = let z : ◌≡◌ {A = ℕ} 0 1 = cc in absurd (omega arith)
+
+    none : (k : AddressKind) (b : Bool) → (asked_text (record { kind = k; bytes = read.bytes }) (cond b (chosen_of true []) None)).kind ≡ Ipv6 → is_ipv6 (kind_of k []) ≡ true
+    none Ipv4 false e = let z : ◌≡◌ {A = ℕ} 0 1 = cc in absurd (omega arith)
+    none Ipv4 true e = let z : ◌≡◌ {A = ℕ} 0 1 = cc in absurd (omega arith)
+    none Ipv6 b e = refl
+    none Domain false e = let z : ◌≡◌ {A = ℕ} 0 1 = cc in absurd (omega arith)
+    none Domain true e = let z : ◌≡◌ {A = ℕ} 0 1 = cc in absurd (omega arith)
+
+    by_record : (c : Option Record) → (asked_text read (cond l (chosen_of true (records_of c)) None)).kind ≡ Ipv6 → is_ipv6 (kind_of read.kind []) ≡ true
+    by_record None = none read.kind l
+    by_record (Some r) = go read.kind l r.family r.address
+
 -- ---- the four bytes of an IPv4 address, of sixteen
+
+pub four_long : {n : ℕ} → n ≡ 16 → 4 ≤ n
+four_long l = omega arith
 
 pub four_size : (bs : List ℕ) → length bs ≡ 16 → 4 ≡ length (take 4 bs)
 four_size bs l = omega (arith, length-take 4 bs)

@@ -1,15 +1,15 @@
 -- What is told of a session, by its stage and what stands in the bytes, and how it is wiped.
 use Rattle.std.proofs.Common.{◌≡◌, ℕ, ◌+◌, ◌-◌, ◌%◌, min, Bool, true, false, cond, ◌&&◌, eqb, ltb, List, ◌++◌, length, take, drop, replicate, sym, refl, ap, ◌∙◌, arith, length-drop, length-take, take-take, Result, Ok, Err}
 use Rattle.protocol.specs.declared.Address.{Address}
-use Rattle.protocol.specs.Answers.{Answer, Accepted, Refused}
+use Rattle.protocol.specs.Answers.{Answer, Accepted}
 use Rattle.protocol.specs.declared.Bound.{Bound}
 use Rattle.protocol.specs.declared.Reply.{Reply}
 use Rattle.protocol.specs.declared.SocksError.{SocksError}
 use Rattle.protocol.specs.Client as client
-use Rattle.protocol.specs.Numbers.{number, status}
+use Rattle.protocol.specs.Numbers.{number, status, answer_number}
 use Rattle.protocol.specs.Bound.{endpoint, address_of, size_of}
 use Rattle.protocol.specs.Requests.{kind_of}
-use Rattle.address_format.specs.endpoint.Written.{TextResult}
+use Rattle.address_format.specs.endpoint.Written.{with_length, TextResult}
 use Rattle.client_stages.specs.declared.due.Stage.{Stage}
 use Rattle.client_stages.specs.declared.due.Stage.TheVariants.{Awaiting, Open, Failed}
 use Rattle.client_stages.specs.due.Stages.{view_at}
@@ -17,7 +17,7 @@ use Rattle.client_stages.specs.outcome.Told.{is_open}
 use Rattle.client_session.specs.declared.Session.{Session}
 use Rattle.client_delivery.specs.wants.Wants.{wants_at}
 use Rattle.client_session.specs.Session.{wants, bound, write_bound}
-use Rattle.client_session.proofs.Named.{bound_is, refused_empty}
+use Rattle.client_session.proofs.Named.{bound_is, accepted_length, refused_empty}
 use Rattle.raw_numbers.specs.Numbers as kinds
 use Rattle.raw_errors.specs.Errors.{error_of}
 use Rattle.lent_numbers.specs.declared.told.RawOutcome.{RawOutcome}
@@ -89,17 +89,20 @@ bound_as s {a} q r w = (λ i. record { port = a.port; kind = r i; len = w i; byt
 
 module _ (x : Session) (text text' : List ℕ) (w : Result ℕ SocksError) (h : TextResult (write_bound x text) w text') where
   pub text_told : {n : ℕ} → w ≡ Ok n → Tells (write_bound x text) (record { len = n; answer = 0 }) text'
-  text_told {n} p = go (write_bound x text).answer refl
-    where
-      go : (a : Answer) → (write_bound x text).answer ≡ a → Tells (write_bound x text) (record { len = n; answer = 0 }) text'
-      go Accepted o = let k : Ok n ≡ Ok (write_bound x text).len = rw (p, o) at h.returned in let l : n ≡ (write_bound x text).len = cc (k) in record { returned = rw (o, l); buffer = h.buffer }
-      go (Refused e) o = let k : Ok n ≡ Err e = rw (p, o) at h.returned in absurd (cc)
+  text_told {n} p =
+      let k : Ok n ≡ with_length (write_bound x text).answer (write_bound x text).len = rw p at h.returned in
+      let t = accepted_length (write_bound x text).answer (write_bound x text).len k in
+      record { returned = rw (t.0, t.1); buffer = h.buffer }
 
   pub text_refused : {e : SocksError} {n : ℕ} → w ≡ Err e → n ≡ number e → Tells (write_bound x text) (record { len = 0; answer = n }) text'
   text_refused {e} p q =
       let k = rw p at h.returned in
       let t = refused_empty x text k in
       record { returned = rw (t.0, t.1, q); buffer = h.buffer }
+
+-- 261 bytes are enough
+pub text_fits : {a : Answer} {n : ℕ} → n ≡ answer_number a → a ≡ Accepted → n ≡ 18 → ⊥
+text_fits q r z = omega (arith, q ∙ ap answer_number r, z)
 
 -- ---- wiped
 

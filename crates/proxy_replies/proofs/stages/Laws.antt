@@ -16,7 +16,7 @@ use Rattle.proxy_spec.specs.End.{status_to, success, reply_to, stage_after}
 use Rattle.buffers.specs.write.Written.{overwrite, Wrote}
 use Rattle.buffers.proofs.write.Laws.{wrote_length}
 use Rattle.proxy_replies.specs.declared.stages.Said.{Said}
-use Rattle.proxy_replies.specs.stages.Answers.{unanswered, answer_asked, answer_at, AnswerResult}
+use Rattle.proxy_replies.specs.stages.Answers.{unanswered, refused, answer_asked, answer_at, AnswerResult}
 
 module _ (v : Version) (s : ℕ) {t u : ℕ} (e : t ≡ status_to v s) (k : u ≡ success v) where
   pub opens : t ≡ u → Open v ≡ stage_after v s
@@ -41,8 +41,11 @@ module _ (v : Version) (s : ℕ) (x : Endpoint) {out : List ℕ} where
       (record { returned = λ j. record { answer = Accepted; sent = p j; stage = q j }; output = z; inside = i })
 
 -- none is awaited
+pub declined : {g : Stage} {out : List ℕ} {r : Said} → r ≡ unanswered Settled g → AnswerResult (refused Settled g out) r out
+declined q = rw q (record { returned = refl; output = refl; inside = omega arith })
+
 pub declines : (g : Stage) (status : ℕ) (x : Endpoint) (out : List ℕ) {r : Said} → ((v : Version) → g ≡ Asked v → ⊥) → r ≡ unanswered Settled g → AnswerResult (answer_at g status x out) r out
-declines (Awaiting f) status x out n q = rw q (record { returned = refl; output = refl; inside = omega arith })
+declines (Awaiting f) status x out n q = declined q
 declines (Asked v) status x out n q = absurd (n v refl)
-declines (Open v) status x out n q = rw q (record { returned = refl; output = refl; inside = omega arith })
-declines (Failed e) status x out n q = rw q (record { returned = refl; output = refl; inside = omega arith })
+declines (Open v) status x out n q = declined q
+declines (Failed e) status x out n q = declined q

@@ -1,6 +1,6 @@
 -- F-9: a host read, way out by way out.
 use Prim.Native.Nat.{ℕ, zero, suc, ◌+◌, ◌-◌, ◌≤◌, ◌<◌, min}
-use native.Mathlib.Nat.{zero-add, add-zero, le_trans}
+use native.Mathlib.Nat.{zero-add, add-zero}
 use native.Mathlib.Numerals.{add-one, one-add}
 use native.Mathlib.Omega.{arith}
 use mathlib.Core.Path.{◌≡◌, refl, sym, ap, ◌∙◌}
@@ -194,15 +194,15 @@ unfolding name_of map seq
 name_is s = names_along 254 s
 
 module _ (s : List ℕ) {n : ℕ} (e : n ≡ prefix_len host_byte (take 255 s)) where
-  pub name_inside : n ≤ length s
-  name_inside = rw e (le_trans (prefix_len-le-length host_byte (take 255 s)) (omega (arith, length-take 255 s)))
+  pub name_inside : (n ≤ length s) × (n ≤ 255)
+  name_inside = let p = prefix_len-le-length host_byte (take 255 s) in rw e (omega (arith, p, length-take 255 s), omega (arith, p, length-take 255 s))
 
   pub name_none : n ≡ 0 → ◌≡◌ {A = Read HostPart} (dies 0) (mapped host_coded (name_of s))
   name_none z = rw (name_is s, ← e, z)
 
   module _ (some : n ≡ 0 → ⊥) where
     pub name_whole : byte s n ≡ 0x3A → ◌≡◌ {A = Read HostPart} (reads (record { at = 0; len = n }) (n + 1)) (mapped host_coded (name_of s))
-    name_whole c = rw (name_is s, ← e, ne_eqb n 0 some, eq-eqb (byte s n) 0x3A c, length-take-le n s name_inside)
+    name_whole c = rw (name_is s, ← e, ne_eqb n 0 some, eq-eqb (byte s n) 0x3A c, length-take-le n s name_inside.0)
 
     pub name_alone : (byte s n ≡ 0x3A → ⊥) → ◌≡◌ {A = Read HostPart} (dies n) (mapped host_coded (name_of s))
     name_alone f = rw (name_is s, ← e, ne_eqb n 0 some, ne_eqb (byte s n) 0x3A f)

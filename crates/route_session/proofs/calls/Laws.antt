@@ -84,6 +84,9 @@ module _ (r : Route) (piece out : List ℕ) {n : ℕ} (q : n ≡ behind_in r) wh
 abbrev undelivered : SocksError → Route → Delivered
 undelivered e r = record { answer = Refused e; used = 0; sent = 0; route = r }
 
+pub room_enough : (r : Route) {n out : ℕ} → n ≡ last_in r.count → 1024 * (n + 1) ≤ out → room_in r ≤ out
+room_enough r q h = omega (arith, q, h)
+
 module _ (r : Route) (piece out : List ℕ) {over : Bool} (v : over ≡ is_over r) where
   refused : (e : SocksError) {d : Delivered} → d ≡ undelivered e r → deliver r piece out ≡ refusal e r out → DeliverResult (deliver r piece out) piece d out
   refused e {d} x q =
@@ -111,8 +114,7 @@ module _ (r : Route) (piece out : List ℕ) {over : Bool} (v : over ≡ is_over 
     pub delivers_takes : 1024 * (n + 1) ≤ length out → {d : Delivered} {out' : List ℕ} → DeliverResult (takes r piece out) piece d out' → DeliverResult (deliver r piece out) piece d out'
     unfolding deliver
     delivers_takes h x =
-        let z : room_in r ≤ length out = rw (← room_is) h in
-        rw (sym v ∙ f, le-leb (room_in r) (length out) z) x
+        rw (sym v ∙ f, le-leb (room_in r) (length out) (room_enough r q h)) x
 
 -- ---- an end, as that of the proxy's session
 

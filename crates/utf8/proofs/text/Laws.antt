@@ -30,12 +30,15 @@ unfolding scan
 scan_append st [] t = refl
 scan_append st (b ∷ s) t = scan_append (next st (class_of b)) s t
 
--- bytes in two lists: by the states behind each, and where both are ascii
+-- bytes in two lists: by the states behind each, and where both are whole, as ascii is
 module _ (s t : List ℕ) where
   pub in_two_lem : (mid end : Utf8State) → mid ≡ scan Boundary s → end ≡ scan mid t → is_boundary end ≡ is_utf8 (s ++ t)
   unfolding is_utf8
   in_two_lem mid end e f = rw (f, e, scan_append Boundary s t)
 
-  pub in_two_ascii : IsAscii s → IsAscii t → true ≡ is_utf8 (s ++ t)
+  pub in_two_whole : scan Boundary s ≡ Boundary → scan Boundary t ≡ Boundary → true ≡ is_utf8 (s ++ t)
   unfolding is_boundary
-  in_two_ascii h k = in_two_lem Boundary Boundary (sym (scan_ascii s h)) (sym (scan_ascii t k))
+  in_two_whole e f = in_two_lem Boundary Boundary (sym e) (sym f)
+
+  pub in_two_ascii : IsAscii s → IsAscii t → true ≡ is_utf8 (s ++ t)
+  in_two_ascii h k = in_two_whole (scan_ascii s h) (scan_ascii t k)

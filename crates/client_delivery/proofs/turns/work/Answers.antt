@@ -1,6 +1,6 @@
 use Rattle.std.proofs.Common.{◌≤◌, ◌++◌, ap, arith, length, drop, length-append}
 use Rattle.client_stages.specs.due.Due.{still_due}
-use Rattle.client_delivery.proofs.turns.Turning.{still_small, loops_first, loops_on, loops_undecided, rank_none, loops_settled}
+use Rattle.client_delivery.proofs.turns.Turning.{still_small, loops_first, loops_on, loops_undecided, rank_none, loops_settled, loops_end}
 use Rattle.client_delivery.proofs.turns.work.Goals as goal
 
 pub loop-init : goal.loop-init
@@ -16,7 +16,7 @@ pub loop-preserved : goal.loop-preserved
 loop-preserved c = loops_on c.loop.invariant c.in-Awaiting.is c.read.ensures.read c.in-Some.is (omega arith)
 
 pub returns-after-loop : goal.returns-after-loop
-returns-after-loop c = let v = c.loop.invariant in loops_settled v (omega (arith, v.ends, c.loop-test.false))
+returns-after-loop c = loops_end c.loop.invariant (omega (arith, c.loop-test.false))
 
 pub returns-in_default : goal.returns-in_default
 returns-in_default c = let v = c.loop.invariant in loops_settled v (rank_none c.loop.turn.stage c.in_default.not-Awaiting)
