@@ -1,4 +1,4 @@
--- F-13 and `wants`: what is wanted of a name that has begun.
+-- F-3: how many bytes are wanted of a name that has begun.
 use Prim.Native.Nat.{ℕ, ◌≤◌}
 use mathlib.Core.Path.{◌≡◌, refl}
 use mathlib.Core.Bool.{Bool, true, false, cond, ◌&&◌}

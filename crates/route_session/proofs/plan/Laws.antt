@@ -2,12 +2,10 @@
 use Prim.Native.Nat.{ℕ, suc, ◌+◌, ◌-◌, ◌*◌, ◌≤◌, min}
 use native.Mathlib.Omega.{arith}
 use mathlib.Core.Path.{◌≡◌, refl, ap, sym, subst, ◌∙◌}
-use mathlib.Core.Bool.{Bool, true, false}
 use mathlib.Core.List.{List, [], ◌∷◌, ◌++◌, map, append_assoc}
-use lib.ListN.{length, set, take, drop, length-drop, length-map, drop_of_length-le}
+use lib.ListN.{length, set, take, drop, length-drop, length-map}
 use lib.Seq.{drop_at, set_split, length-take-le}
-use lib.Dec.{leb}
-use borrow.Author.Tests.{leb-true, leb-false}
+use Rattle.std.proofs.lemmas.List.{drop_min}
 use Rattle.protocol.specs.Answers as code
 use Rattle.protocol.specs.declared.SocksError.{SocksError}
 use Rattle.protocol.specs.Opening.{Opening}
@@ -22,13 +20,6 @@ use Rattle.route_session.specs.declared.plan.Proxy.{Proxy}
 use Rattle.route_session.specs.plan.Plan.{proxy_of, proxies_of, asked_in_row, prepared_for, kept_hop, hop_for, hops_for, bytes_for, PlanResult}
 
 -- ---- a part of a text
-
-drop_min : (n : ℕ) (l : List ℕ) → drop (min n (length l)) l ≡ drop n l
-drop_min n l = go (leb n (length l)) refl
-  where
-    go : (b : Bool) → leb n (length l) ≡ b → drop (min n (length l)) l ≡ drop n l
-    go true e = let h = leb-true n (length l) e in let z : min n (length l) ≡ n = omega arith in rw z
-    go false e = let h = leb-false n (length l) e in drop_of_length-le l {i = min n (length l)} (omega arith) ∙ sym (drop_of_length-le l {i = n} (omega arith))
 
 pub part_as : (text : List ℕ) (f l : ℕ) {a n : ℕ} → a ≡ min f (length text) → n ≡ min l (length text - a) → take (a + n - a) (drop a text) ≡ take l (drop f text)
 part_as text f l {a} {n} p q =
