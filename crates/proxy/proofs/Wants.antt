@@ -2,11 +2,12 @@
 use Prim.Native.Nat.{ℕ, ◌+◌, ◌≤◌}
 use native.Mathlib.Omega.{arith}
 use mathlib.Core.Path.{◌≡◌, refl, ap, sym, subst, ◌∙◌}
-use mathlib.Core.Bool.{Bool, true, false, true≢false, cond, ◌||◌}
+use mathlib.Core.Bool.{Bool, true, false, true≢false, cond}
 use mathlib.Core.List.{List, [], ◌∷◌}
 use lib.ListN.{length}
 use lib.Dec.{leb, ltb, lit≤}
 use borrow.Author.Tests.{ltb-false}
+use Rattle.std.proofs.lemmas.Bool.{or_parts}
 use Rattle.protocol.specs.Answers.{Accepted}
 use Rattle.protocol.specs.declared.SocksError.TheVariants.{ShortOutput, Settled}
 use Rattle.protocol.specs.Bytes.{Bytes}
@@ -92,13 +93,9 @@ module _ (e : Server) (J : List ℕ) (k : Sendable (setup_of e)) (q : view e ≡
 
 -- ---- of what set-up returned
 
-neither : (a b : Bool) → (a || b) ≡ false → (a ≡ false) × (b ≡ false)
-neither true b q = absurd (true≢false q)
-neither false b q = (refl, q)
-
 kept_sendable : (authenticates : Bool) (user password : List ℕ) → Bytes user → Bytes password → too_long authenticates user password ≡ false → Sendable (kept authenticates user password)
 kept_sendable true user password u p q =
-    let (a, b) = neither (ltb 255 (length user)) (ltb 255 (length password)) q in
+    let (a, b) = or_parts (ltb 255 (length user)) (ltb 255 (length password)) q in
     record { user = u; password = p; user_fits = ltb-false 255 (length user) a; password_fits = ltb-false 255 (length password) b }
 kept_sendable false user password u p q = record { user = zeros 0; password = zeros 0; user_fits = lit≤ tt; password_fits = lit≤ tt }
 

@@ -7,6 +7,7 @@ use mathlib.Core.List.{List, []}
 use lib.ListN.{length, replicate}
 use lib.Dec.{ltb}
 use borrow.Author.Tests.{ltb-false}
+use Rattle.std.proofs.lemmas.Bool.{or_parts}
 use Rattle.protocol.specs.Answers.{Answer, Accepted, Refused, Port}
 use Rattle.protocol.specs.declared.AddressKind.{AddressKind}
 use Rattle.protocol.specs.declared.Record.{Record}
@@ -41,10 +42,6 @@ unless : (b c : Bool) → (b && c) ≡ false → b ≡ true → c ≡ false
 unless true c p q = p
 unless false c p q = absurd (true≢false (sym q))
 
-neither : (a b : Bool) → (a || b) ≡ false → (a ≡ false) × (b ≡ false)
-neither true b p = absurd (true≢false p)
-neither false b p = (refl, p)
-
 passed_name : (name : Bool) (text : List ℕ) (most : ℕ) (lookup none : Bool) (later : Answer) → check_name name text most lookup none later ≡ Accepted → name ≡ true → length text ≤ most
 passed_name name text most lookup none later e q = ltb-false most (length text) (unless name (ltb most (length text)) (passed (name && ltb most (length text)) HostTooLong (refuse (lookup && (name && none)) DnsFailure later) e).0 q)
 
@@ -55,7 +52,7 @@ module _ (text : List ℕ) (kind : AddressKind) (port : Port) (records : List Re
       let named = check_name (is_name (kind_of kind [])) text 255 config.local_dns (is_none (first_record records)) Accepted in
       let long = ltb 255 (length user) || ltb 255 (length password) in
       let q = passed (config.proxy_auth && long) CredentialTooLong named (passed_shared text port (refuse (config.proxy_auth && long) CredentialTooLong named) e) in (
-        λ b. let n = neither (ltb 255 (length user)) (ltb 255 (length password)) (unless config.proxy_auth long q.0 b) in
+        λ b. let n = or_parts (ltb 255 (length user)) (ltb 255 (length password)) (unless config.proxy_auth long q.0 b) in
             (ltb-false 255 (length user) n.0, ltb-false 255 (length password) n.1),
         passed_name (is_name (kind_of kind [])) text 255 config.local_dns (is_none (first_record records)) Accepted q.1,
       )
